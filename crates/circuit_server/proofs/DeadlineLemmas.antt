@@ -22,7 +22,7 @@ use Rattle.bindings_v6.specs.declared.decision6.KeptSlot.{KeptSlot as KeptSlot6}
 use Rattle.circuit_server.specs.CircuitDecision.{FitsCircuit, KeepsItsSlot, LosesNoOther, with_decision}
 use Rattle.circuit_server.specs.declared.decision.CircuitDecision.{CircuitDecision}
 use Rattle.circuit_server.specs.declared.decision.CircuitDecision.TheVariants.{V4, V6}
-use Rattle.circuit_server.specs.Deadlines.{HasDeadlines, HasEntries, HasItsSlots, IsOfferIn, KeepsEntries, OthersUnchanged, UnchangedOrUntilHeld, held_in, held_until, live_until, swept, with_deadlines, with_kept4, with_kept6, with_offered, with_until}
+use Rattle.circuit_server.specs.Deadlines.{HasDeadlines, HasEntries, HasItsSlots, IsOfferIn, KeepsEntries, OtherEntriesUnchanged, UnchangedOrUntilHeld, held_in, held_until, live_until, swept, with_deadlines, with_kept4, with_kept6, with_offered, with_until}
 use Rattle.circuit_server.specs.CircuitServerValue.{OpenCircuitValue}
 
 -- ---- what slots hold
@@ -101,7 +101,7 @@ put_other table n m until other = get_or-set_other table.slots n m until None ot
 -- the first slots of a circuit have their deadlines
 pub record AreSet (first count : ℕ) (state : Option OpenCircuitValue) (old new : DeadlinesValue) : Type 0 where
   pub own : (s : ℕ) → s < count → deadline new (first + s) ≡ held_in state s
-  pub beside : OthersUnchanged first old new
+  pub beside : OtherEntriesUnchanged first old new
 
 pub one_more : (first count : ℕ) (state : Option OpenCircuitValue) (old before after : DeadlinesValue) (until : Option ℕ) → count < 32 → first + 32 ≤ length old.slots
     → until ≡ held_in state count → after ≡ with_until (first + count) until before → AreSet first count state old before → AreSet first (count + 1) state old after
@@ -340,7 +340,7 @@ old_or_decided (V4 made) table first o room keeps others = by_change4 made.decis
 old_or_decided (V6 made) table first o room keeps others = by_change6 made.decision.keep table first o.six.pool.count o room keeps.2 others.1 keeps.1
 
 -- nothing beside the circuit's slots
-beside_one : (first n : ℕ) (until : Option ℕ) (old table : DeadlinesValue) → first ≤ n → n < first + 32 → OthersUnchanged first old table → OthersUnchanged first old (with_until n until table)
+beside_one : (first n : ℕ) (until : Option ℕ) (old table : DeadlinesValue) → first ≤ n → n < first + 32 → OtherEntriesUnchanged first old table → OtherEntriesUnchanged first old (with_until n until table)
 beside_one first n until old table least below same =
     record {
       size = length-set table.slots n until ∙ same.size;
@@ -350,23 +350,23 @@ beside_one first n until old table least below same =
       apart : (m : ℕ) → m ≡ n → (m < first) ⊎ (first + 32 ≤ m) → ⊥
       apart m e out = omega (arith, e, out, least, below)
 
-beside_offered : (change : Option OfferChange) (first : ℕ) (old table : DeadlinesValue) → IfSome change IsOfferIn → OthersUnchanged first old table → OthersUnchanged first old (with_offered first change table)
+beside_offered : (change : Option OfferChange) (first : ℕ) (old table : DeadlinesValue) → IfSome change IsOfferIn → OtherEntriesUnchanged first old table → OtherEntriesUnchanged first old (with_offered first change table)
 beside_offered None first old table its same = same
 beside_offered (Some (offer.Made i k u)) first old table its same = beside_one first (first + i) (Some u) old table (omega arith) (omega (arith, its)) same
 beside_offered (Some (offer.Withdrawn i)) first old table its same = beside_one first (first + i) None old table (omega arith) (omega (arith, its)) same
 
-beside_kept4 : (keep : Option KeptSlot4) (first : ℕ) (old table : DeadlinesValue) → IfSome keep (λ kept. kept.slot < 16) → OthersUnchanged first old table → OthersUnchanged first old (with_kept4 first keep table)
+beside_kept4 : (keep : Option KeptSlot4) (first : ℕ) (old table : DeadlinesValue) → IfSome keep (λ kept. kept.slot < 16) → OtherEntriesUnchanged first old table → OtherEntriesUnchanged first old (with_kept4 first keep table)
 beside_kept4 None first old table its same = same
 beside_kept4 (Some kept) first old table its same = beside_one first (first + kept.slot) _ old table (omega arith) (omega (arith, its)) same
 
-beside_kept6 : (keep : Option KeptSlot6) (first : ℕ) (old table : DeadlinesValue) → IfSome keep (λ kept. kept.slot < 16) → OthersUnchanged first old table → OthersUnchanged first old (with_kept6 first keep table)
+beside_kept6 : (keep : Option KeptSlot6) (first : ℕ) (old table : DeadlinesValue) → IfSome keep (λ kept. kept.slot < 16) → OtherEntriesUnchanged first old table → OtherEntriesUnchanged first old (with_kept6 first keep table)
 beside_kept6 None first old table its same = same
 beside_kept6 (Some kept) first old table its same = beside_one first (first + (16 + kept.slot)) _ old table (omega arith) (omega (arith, its)) same
 
-pub unchanged : (first : ℕ) (table : DeadlinesValue) → OthersUnchanged first table table
+pub unchanged : (first : ℕ) (table : DeadlinesValue) → OtherEntriesUnchanged first table table
 unchanged first table = record { size = refl; examined = refl; beside = λ n out. refl }
 
-pub beside_decision : (d : CircuitDecision) (table : DeadlinesValue) (first : ℕ) → HasItsSlots d → OthersUnchanged first table (with_deadlines d first table)
+pub beside_decision : (d : CircuitDecision) (table : DeadlinesValue) (first : ℕ) → HasItsSlots d → OtherEntriesUnchanged first table (with_deadlines d first table)
 beside_decision (V4 made) table first its = beside_kept4 (kept_slot made.decision.change) first table (with_offered first (offer_change made.decision.change) table) its.0 (beside_offered (offer_change made.decision.change) first table table its.1 (unchanged first table))
 beside_decision (V6 made) table first its = beside_kept6 made.decision.keep first table table its (unchanged first table)
 

@@ -20,7 +20,7 @@ use Rattle.circuit_server.specs.Calls.{IsCalledToSaveAt}
 use Rattle.circuit_server.specs.CircuitDecision.{FitsCircuit, IsToSave, is_kept, kept_in, served_by, with_decision}
 use Rattle.circuit_server.specs.CircuitServerValue.{HasPools, IsReadyFor, OpenCircuitValue, open_book}
 use Rattle.circuit_server.specs.Leases.{Leases, after_datagram, formats_of, restarts_of}
-use Rattle.circuit_server.specs.Prepared.{IsApplied, IsDecided, IsDropped, IsPrepared, IsSavedAlone, IsSettled, marks_by, saving_of, with_marks}
+use Rattle.circuit_server.specs.Prepared.{IsApplied, IsDropped, IsPrepared, IsSavedAlone, IsSettled, marks_by, saving_of, with_marks}
 use Rattle.circuit_server.specs.Server.{Served, book_at, datagram_served, drop}
 use Rattle.circuit_server.specs.Deadlines.{HasDeadlines, HasEntries, KeepsEntries, UnchangedOrUntilHeld, held_in}
 use Rattle.circuit_server.specs.Ticked.{IsLater, open_at}
@@ -30,6 +30,7 @@ use Rattle.circuit_server.specs.declared.decision.CircuitDecision.TheVariants.{V
 use Rattle.circuit_server.specs.declared.prepared.Prepared.{Prepared}
 use Rattle.circuit_server.proofs.AnswerLemmas.{WasAsked, as_served, asked, failed, fails_by, held, leases_as, none_fails, saves_so}
 use Rattle.circuit_server.proofs.CalledLemmas.{called_none, called_one}
+use Rattle.circuit_server.proofs.DeadlineLemmas.{ticked_entries}
 use Rattle.circuit_server.proofs.SaveLemmas.{is_fit, is_to_save, still_ready}
 use Rattle.circuit_server.proofs.SavedLemmas.{saved_formats, saved_ready, saved_restarts}
 
@@ -255,68 +256,82 @@ decided_pools part decision None pools = pools
 decided_pools part (V4 made) (Some o) pools = pools
 decided_pools part (V6 made) (Some o) pools = pools
 
--- ---- datagrams that are dropped
+-- ---- what is decided at a datagram's moment
 
-pub refused_dropped : (part : CircuitPart) (d : DeliveryValue) (old : Option OpenCircuitValue) (o later : OpenCircuitValue) (why : Discard) → old ≡ Some o → open_book later ≡ book_at d.moment (open_book o)
-    → datagram_served part d.proto d.bytes (open_book later) ≡ drop why (open_book later) → ((region : Region) → IsReadyFor region (Some o) → IsReadyFor region (Some later)) → IsDropped part d old (Some later) why
-refused_dropped part d old o later why is ticked refused ready =
-    let served_so = asked part d (open_book o) (open_book later) _ ticked refused in
-    let its : WasAsked (record { part = part; state = old }) d part o (drop why (open_book later)) = record { was = λ i. record { part = part; state = is i }; served_so = served_so } in
-    record {
-      answers = λ fails. as_served its fails;
-      saves = saves_so its;
-      leases = λ region fault. leases_as its (λ r. region) (λ r. region) (λ r. fault) (open_book later) true refl (λ keeps. absurd cc) (λ changes. refl) refl refl;
-      ready = λ region was. ready region (subst (IsReadyFor region) is was);
-    }
+-- An open circuit whose clock was moved to the moment of a datagram: nothing else of it is changed.
+pub record WasTicked (d : DeliveryValue) (old : Option OpenCircuitValue) (before now : OpenCircuitValue) : Type 0 where
+  pub was : old ≡ Some before
+  pub at : now ≡ open_at d.moment before
+  pub later : before.clock ≤ now.clock
+  pub book : open_book now ≡ book_at d.moment (open_book before)
+  pub ready : (region : Region) → IsReadyFor region (Some before) → IsReadyFor region (Some now)
 
--- ---- what is decided, and made
-
-pub refused_all : {T : Type 0} (part : CircuitPart) (d : DeliveryValue) (old : Option OpenCircuitValue) (o later : OpenCircuitValue) (result : Result T Discard) → old ≡ Some o → open_book later ≡ book_at d.moment (open_book o)
-    → IfErr result (λ why. datagram_served part d.proto d.bytes (open_book later) ≡ drop why (open_book later)) → ((region : Region) → IsReadyFor region (Some o) → IsReadyFor region (Some later)) → IfErr result (IsDropped part d old (Some later))
-refused_all part d old o later (Ok decision) is ticked refused ready = tt
-refused_all part d old o later (Err why) is ticked refused ready = refused_dropped part d old o later why is ticked refused ready
-
-pub decided_all : {T : Type 0} (decided : T → CircuitDecision) (part : CircuitPart) (d : DeliveryValue) (old : Option OpenCircuitValue) (o later : OpenCircuitValue) (result : Result T Discard) → old ≡ Some o → later ≡ open_at d.moment o → open_book later ≡ book_at d.moment (open_book o)
-    → IfOk result (λ made. datagram_served part d.proto d.bytes (open_book later) ≡ served_by part later (decided made)) → IfOk result (λ made. FitsCircuit (decided made) later)
-    → ((region : Region) → IsReadyFor region (Some o) → IsReadyFor region (Some later)) → IfOk result (λ made. IsDecided part d old (Some later) (decided made))
-decided_all decided part d old o later (Err why) was at ticked serves fits ready = tt
-decided_all decided part d old o later (Ok made) was at ticked serves fits ready = record {
-  before = o;
+pub was_ticked : {seen d : DeliveryValue} {old : Option OpenCircuitValue} {before now : OpenCircuitValue} → seen ≡ d → old ≡ Some before → now ≡ open_at seen.moment before → before.clock ≤ now.clock
+    → open_book now ≡ book_at seen.moment (open_book before) → ((region : Region) → IsReadyFor region (Some before) → IsReadyFor region (Some now)) → WasTicked d old before now
+was_ticked {seen} {d} {old} {before} {now} same was at later book ready = record {
   was = was;
-  is = ap Some at;
-  serves = asked part d (open_book o) (open_book later) _ ticked serves ∙ ap (λ x. served_by part x (decided made)) at;
-  fits = subst (FitsCircuit (decided made)) at fits;
-  ready = λ region kept. subst (λ x. IsReadyFor region (Some x)) at (ready region (subst (IsReadyFor region) was kept));
+  at = at ∙ ap (λ (x : DeliveryValue). open_at x.moment before) same;
+  later = later;
+  book = book ∙ ap (λ (x : DeliveryValue). book_at x.moment (open_book before)) same;
+  ready = ready;
 }
 
-module _ (part : CircuitPart) (d : DeliveryValue) (old middle new : Option OpenCircuitValue) (decision : CircuitDecision) (saving : Option Saving) (decided : IsDecided part d old middle decision)
-    (made : (before : OpenCircuitValue) → middle ≡ Some before → IsApplied part decision before new saving) (pools : HasPools part new) where
-  pub prepared_of : IsPrepared part d old new (record { decision = decision; saving = saving })
-  prepared_of =
-      let m = made (open_at d.moment decided.before) decided.is in
+module _ {d : DeliveryValue} {old : Option OpenCircuitValue} {before now : OpenCircuitValue} (ticked : WasTicked d old before now) where
+  pub pools_now : (part : CircuitPart) → HasPools part old → HasPools part (Some now)
+  pools_now part pools = subst (λ (o : OpenCircuitValue). HasPools part (Some o)) (sym ticked.at) (subst (HasPools part) ticked.was pools)
+
+  pub entries_now : (table : DeadlinesValue) (circuit : ℕ) → HasEntries table circuit old → HasEntries table circuit (Some now)
+  entries_now table circuit has =
+      ticked_entries table circuit before now (ap (λ (o : OpenCircuitValue). o.four) ticked.at) (ap (λ (o : OpenCircuitValue). o.six) ticked.at) ticked.later (subst (HasEntries table circuit) ticked.was has)
+
+  ready_now : (region : Region) → IsReadyFor region old → IsReadyFor region (Some now)
+  ready_now region ready = ticked.ready region (subst (IsReadyFor region) ticked.was ready)
+
+  pub dropped_now : (part : CircuitPart) (why : Discard) → datagram_served part d.proto d.bytes (open_book now) ≡ drop why (open_book now) → IsDropped part d old (Some now) why
+  dropped_now part why refused =
+      let served_so = asked part d (open_book before) (open_book now) _ ticked.book refused in
+      let its : WasAsked (record { part = part; state = old }) d part before (drop why (open_book now)) = record { was = λ i. record { part = part; state = ticked.was i }; served_so = served_so } in
       record {
-        before = decided.before;
+        answers = λ fails. as_served its fails;
+        saves = saves_so its;
+        leases = λ region fault. leases_as its (λ r. region) (λ r. region) (λ r. fault) (open_book now) true refl (λ keeps. absurd cc) (λ changes. refl) refl refl;
+        ready = ready_now;
+      }
+
+  -- by what was made of the circuit as it was then
+  pub prepared_now : (part : CircuitPart) (decision made : CircuitDecision) (state new : Option OpenCircuitValue) (saving : Option Saving) → decision ≡ made → state ≡ Some now
+      → datagram_served part d.proto d.bytes (open_book now) ≡ served_by part now made → FitsCircuit made now
+      → ((was : OpenCircuitValue) → state ≡ Some was → IsApplied part decision was new saving) → HasPools part new → IsPrepared part d old new (record { decision = decision; saving = saving })
+  prepared_now part decision made state new saving same left serves fits makes pools =
+      let m = makes now left in
+      let fits_so : FitsCircuit decision (open_at d.moment before) = subst (λ x. FitsCircuit x (open_at d.moment before)) (sym same) (subst (FitsCircuit made) ticked.at fits) in
+      record {
+        before = before;
         after = m.after;
-        was = decided.was;
+        was = ticked.was;
         is = m.is;
-        decided = m.decided;
-        serves = decided.serves;
+        decided = m.decided ∙ ap (with_decision decision) ticked.at;
+        serves = asked part d (open_book before) (open_book now) _ ticked.book serves ∙ ap (λ o. served_by part o made) ticked.at ∙ ap (served_by part (open_at d.moment before)) (sym same);
         saving = m.saving_is;
-        keeps = decided.fits.keeps;
-        within = decided.fits.within;
+        keeps = fits_so.keeps;
+        within = fits_so.within;
         pools = pools;
-        ready = decided.ready;
+        ready = λ region ready. subst (λ o. IsReadyFor region (Some o)) ticked.at (ready_now region ready);
         book = m.book;
         means = m.means;
       }
 
--- of a result that was looked at
-pub prepared_by : {T : Type 0} (decided : T → CircuitDecision) (part : CircuitPart) (d : DeliveryValue) (old middle new : Option OpenCircuitValue) (result : Result T Discard) (made : T) (saving : Option Saving) → result ≡ Ok made → IfOk result (λ made. IsDecided part d old middle (decided made))
-    → ((before : OpenCircuitValue) → middle ≡ Some before → IsApplied part (decided made) before new saving) → HasPools part new → IsPrepared part d old new (record { decision = decided made; saving = saving })
-prepared_by decided part d old middle new result made saving is its makes pools = prepared_of part d old middle new (decided made) saving (subst (λ r. IfOk r (λ made. IsDecided part d old middle (decided made))) is its) makes pools
+  -- by a result that was looked at
+  module _ {T : Type 0} (decision : T → CircuitDecision) (part : CircuitPart) (result : Result T Discard) where
+    pub dropped_by : (why : Discard) → result ≡ Err why → IfErr result (λ why. datagram_served part d.proto d.bytes (open_book now) ≡ drop why (open_book now)) → IsDropped part d old (Some now) why
+    dropped_by why is refused = dropped_now part why (subst (λ r. IfErr r (λ why. datagram_served part d.proto d.bytes (open_book now) ≡ drop why (open_book now))) is refused)
 
-pub dropped_by : {T : Type 0} (part : CircuitPart) (d : DeliveryValue) (old new : Option OpenCircuitValue) (result : Result T Discard) (why : Discard) → result ≡ Err why → IfErr result (IsDropped part d old new) → IsDropped part d old new why
-dropped_by part d old new result why is dropped = subst (λ r. IfErr r (IsDropped part d old new)) is dropped
+    pub prepared_by : (made : T) (new : Option OpenCircuitValue) (saving : Option Saving) → result ≡ Ok made → IfOk result (λ made. datagram_served part d.proto d.bytes (open_book now) ≡ served_by part now (decision made))
+        → IfOk result (λ made. FitsCircuit (decision made) now) → ((was : OpenCircuitValue) → Some now ≡ Some was → IsApplied part (decision made) was new saving) → HasPools part new
+        → IsPrepared part d old new (record { decision = decision made; saving = saving })
+    prepared_by made new saving is serves fits makes pools =
+        prepared_now part (decision made) (decision made) (Some now) new saving refl refl (subst (λ r. IfOk r (λ made. datagram_served part d.proto d.bytes (open_book now) ≡ served_by part now (decision made))) is serves)
+        (subst (λ r. IfOk r (λ made. FitsCircuit (decision made) now)) is fits) makes pools
 
 -- ---- marks alone change nothing else
 

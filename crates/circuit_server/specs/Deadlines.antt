@@ -42,7 +42,7 @@ UnchangedOrUntilHeld first old new state = (s : ℕ) → s < 32 → (deadline ne
 -- ---- no public call of `dispatch` speaks of these
 
 -- all but the 32 slots from this number on have the deadlines that they had, and no entry was looked at
-pub record OthersUnchanged (first : ℕ) (old new : DeadlinesValue) : Type 0 where
+pub record OtherEntriesUnchanged (first : ℕ) (old new : DeadlinesValue) : Type 0 where
   pub size : length new.slots ≡ length old.slots
   pub examined : new.examined ≡ old.examined
   pub beside : (n : ℕ) → (n < first) ⊎ (first + 32 ≤ n) → deadline new n ≡ deadline old n
@@ -56,7 +56,7 @@ pub record HasEntries (table : DeadlinesValue) (circuit : ℕ) (state : Option O
 pub record KeepsEntries (circuit : ℕ) (old new : DeadlinesValue) (state : Option OpenCircuitValue) : Type 0 where
   pub deadlines : HasDeadlines new (32 * circuit) state
   pub own : UnchangedOrUntilHeld (32 * circuit) old new state
-  pub others : OthersUnchanged (32 * circuit) old new
+  pub others : OtherEntriesUnchanged (32 * circuit) old new
 
 abbrev pub swept : ℕ → DeadlinesValue → DeadlinesValue
 swept now table = record table { slots = map (entry_after_sweep now) table.slots }

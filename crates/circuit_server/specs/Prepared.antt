@@ -14,7 +14,7 @@ use Rattle.lease_disk.specs.Save.{IsSaveOf}
 use Rattle.batch_saves.specs.Batch.{IsReady}
 use Rattle.lease_disk.specs.declared.saving.Saving.{Saving}
 use Rattle.circuit_server.specs.Answered.{IsAnswer, answered, circuit_saves}
-use Rattle.circuit_server.specs.CircuitDecision.{FitsCircuit, IsWithin, KeepsItsSlot, answer_of, kept_in, served_by, with_decision}
+use Rattle.circuit_server.specs.CircuitDecision.{IsWithin, KeepsItsSlot, answer_of, kept_in, served_by, with_decision}
 use Rattle.circuit_server.specs.CircuitServerValue.{HasPools, IsReadyFor, OpenCircuitValue, counts_in, kept_slots, leases_of, open_book}
 use Rattle.circuit_server.specs.Leases.{after_datagram, book_in}
 use Rattle.circuit_server.specs.Server.{kept_book, served}
@@ -25,16 +25,6 @@ use Rattle.circuit_server.specs.declared.prepared.Prepared.{Prepared}
 -- the save of a slot that is to hold this
 abbrev pub saving_of : CircuitPart → OpenCircuitValue → ℕ × Content → Saving
 saving_of part o kept = record { region = part.region; clock = o.clock; slot = kept.0; content = kept.1; marks = o.marks; failed = 0 }
-
--- An open circuit decided on a datagram at its moment, and nothing else is changed yet.
-pub record IsDecided (part : CircuitPart) (d : DeliveryValue) (old new : Option OpenCircuitValue) (decision : CircuitDecision) : Type 0 where
-  pub before : OpenCircuitValue
-  pub was : old ≡ Some before
-  pub is : new ≡ Some (open_at d.moment before)
-  pub serves : served part d (open_book before) ≡ served_by part (open_at d.moment before) decision
-  pub fits : FitsCircuit decision (open_at d.moment before)
-  -- its region is as ready at the datagram's moment as it was before
-  pub ready : (region : Region) → IsReadyFor region old → IsReadyFor region (Some (open_at d.moment before))
 
 -- A decision's changes of the books are made, and this is to be saved.
 pub record IsApplied (part : CircuitPart) (decision : CircuitDecision) (before : OpenCircuitValue) (new : Option OpenCircuitValue) (saving : Option Saving) : Type 0 where
@@ -47,8 +37,8 @@ pub record IsApplied (part : CircuitPart) (decision : CircuitDecision) (before :
   pub means : (kept : ℕ × Content) → kept_in decision ≡ Some kept → book_in part (kept_slots after) ≡ kept_book (open_book after)
 
 -- The device is ready for the save of whatever a decision of this circuit calls for.
-abbrev pub CanSave : Bool → Device → CircuitPart → CircuitDecision → Option OpenCircuitValue → Type 0
-CanSave tells device part decision old =
+abbrev pub CanSaveDecision : Bool → Device → CircuitPart → CircuitDecision → Option OpenCircuitValue → Type 0
+CanSaveDecision tells device part decision old =
     (new : Option OpenCircuitValue) (saving : Option Saving) → HasPools part new → ((before : OpenCircuitValue) → old ≡ Some before → IsApplied part decision before new saving) → IfSome saving (IsReady tells device)
 
 -- An open circuit decided on a datagram: its books have the decision's changes, and this is to be saved.

@@ -5,9 +5,9 @@ ghost use Rattle.config.specs.CircuitPart.{IsPart};
 ghost use Rattle.circuit_server.specs.Deadlines.{HasEntries, KeepsEntries, held_in};
 ghost use Rattle.circuit_server.specs.Restarted.{IsRestarted};
 ghost use Rattle.circuit_server.specs.Served.{IsServed};
-ghost use Rattle.timers.specs.Deadlines.{DeadlinesValue, deadline};
+ghost use Rattle.timers.specs.Deadlines.{deadline};
 ghost use Rattle.requests.specs.RelayedMessage.{IsRelayedMessage};
-ghost use Rattle.circuit_server.specs.Prepared.{CanSave, IsApplied, IsAppliedAndSaved, IsDecided, IsDropped, IsPrepared};
+ghost use Rattle.circuit_server.specs.Prepared.{CanSaveDecision, IsApplied, IsAppliedAndSaved, IsDropped, IsPrepared};
 ghost use Rattle.circuit_server.specs.Prepared.{IsDecisionSettled, IsSettled, with_marks};
 ghost use Rattle.circuit_server.specs.CircuitDecision.{FitsCircuit, with_decision};
 ghost use Rattle.circuit_server.specs.CircuitServerValue.{HasPools, IsReadyFor, OpenCircuitValue, kept_slots, open_book};
@@ -16,7 +16,7 @@ ghost use Rattle.circuit_server.specs.Unoffered.{state_unoffered};
 ghost use Rattle.lease_disk.specs.Device.{ChangesOne};
 ghost use Rattle.lease_disk.specs.Region.{IsClean};
 
-use crate::decision::{CircuitDecision, CircuitDecision4, CircuitDecision6, Decide, put};
+use crate::decision::{CircuitDecision, CircuitDecision4, CircuitDecision6, Decide, Decision, put};
 use crate::open_circuit::OpenCircuit;
 use crate::prepared::{Prepared, save_alone};
 use config::CircuitPart;
@@ -90,32 +90,8 @@ impl CircuitServer {
         self.state = OpenCircuit::recover(part, disk);
     }
 
-    /// Moves the clock of an open circuit to the moment of a datagram of it, and decides on what was read of that. The error
-    /// is the reason for which the datagram is dropped.
-    #[inline(always)]
-    fn decide<C: Decide>(
-        &mut self,
-        part: &CircuitPart,
-        delivery: &Delivery<'_>,
-        read: C::Read,
-    ) -> Result<C, Discard>
-        requires read { IsRelayedMessage delivery.now.proto delivery.now.bytes (C.relayed read) }
-        requires pools { HasPools part.now self.old }
-        ensures later { (moment : ℕ) → IsLater moment self.old → IsLater moment self.new }
-        ensures pools { HasPools part.now self.new }
-        ensures entries { (table : DeadlinesValue) (circuit : ℕ) → HasEntries table circuit self.old → HasEntries table circuit self.new }
-        ensures decided { IfOk result (λ made. IsDecided part.now delivery.now self.old self.new (C.decision made)) }
-        ensures dropped { IfErr result (IsDropped part.now delivery.now self.old self.new) }
-    {
-        let Some(circuit) = &mut self.state else {
-            return Err(Discard::CircuitClosed);
-        };
-        circuit.tick(delivery.moment);
-        C::decide(circuit, part, read)
-    }
-
     /// Makes what a decision of an open circuit changes of the books and the deadlines.
-    fn apply<C: Decide>(&mut self, decision: &C, table: &mut Deadlines, circuit: Circuit)
+    fn apply<C: Decision>(&mut self, decision: &C, table: &mut Deadlines, circuit: Circuit)
         requires entries { HasEntries table.old circuit self.old }
         requires fits { IfSome self.old (FitsCircuit (C.decision decision.now)) }
         ensures entries { KeepsEntries circuit table.old table.new self.new }
@@ -133,7 +109,7 @@ impl CircuitServer {
     /// its reply leaves, if anything.
     // not inlined: most datagrams save nothing, and the room for a save is large
     #[inline(never)]
-    fn apply_for_save<C: Decide>(
+    fn apply_for_save<C: Decision>(
         &mut self,
         part: &CircuitPart,
         decision: &C,
@@ -157,7 +133,7 @@ impl CircuitServer {
 
     /// Makes what a decision of an open circuit changes of the books and the deadlines, and saves what has to be saved, if
     /// anything, alone. Returns the marks of the region after it.
-    fn apply_and_save<C: Decide, D: Disk>(
+    fn apply_and_save<C: Decision, D: Disk>(
         &mut self,
         part: &CircuitPart,
         decision: &C,
@@ -168,7 +144,7 @@ impl CircuitServer {
         requires entries { HasEntries table.old circuit self.old }
         requires pools { HasPools part.now self.old }
         requires fits { IfSome self.old (FitsCircuit (C.decision decision.now)) }
-        requires ready { CanSave D.tells (D.device disk.old) part.now (C.decision decision.now) self.old }
+        requires ready { CanSaveDecision D.tells (D.device disk.old) part.now (C.decision decision.now) self.old }
         ensures later { (moment : ℕ) → IsLater moment self.old → IsLater moment self.new }
         ensures pools { HasPools part.now self.new }
         ensures entries { KeepsEntries circuit table.old table.new self.new }
@@ -203,9 +179,19 @@ impl CircuitServer {
         ensures prepared { IfOk result (IsPrepared part.now delivery.now self.old self.new) }
         ensures dropped { IfErr result (IsDropped part.now delivery.now self.old self.new) }
     {
-        let decision: CircuitDecision<'a> = match self.decide(part, delivery, relayed) {
-            Ok(decision) => decision,
-            Err(why) => return Err(why),
+        let Some(state) = &mut self.state else {
+            return Err(Discard::CircuitClosed);
+        };
+        state.tick(delivery.moment);
+        let decision = match relayed {
+            RelayedMessage::V4(message) => match CircuitDecision4::decide(state, part, message) {
+                Ok(made) => CircuitDecision::V4(made),
+                Err(why) => return Err(why),
+            },
+            RelayedMessage::V6(forward) => match CircuitDecision6::decide(state, part, forward) {
+                Ok(made) => CircuitDecision::V6(made),
+                Err(why) => return Err(why),
+            },
         };
         let saving = self.apply_for_save(part, &decision, table, circuit);
         Ok(Prepared { decision, saving })
@@ -235,7 +221,7 @@ impl CircuitServer {
 
     /// Answers by a decision whose changes are made, and by its save: the marks of the region after it, or that it failed,
     /// which closes the circuit.
-    fn settle_decision<C: Decide>(
+    fn settle_decision<C: Decision>(
         &mut self,
         part: &CircuitPart,
         decision: &C,
@@ -324,8 +310,12 @@ impl CircuitServer {
         ensures entries { KeepsEntries circuit table.old table.new self.new }
         ensures served { IsServed D.tells part.now delivery.now self.old self.new result out.new (D.device disk.old) (D.device disk.new) }
     {
+        let Some(state) = &mut self.state else {
+            return Err(Discard::CircuitClosed);
+        };
+        state.tick(delivery.moment);
         // what is decided stays where it is: to move it costs more than the rest of a short answer
-        let decided: Result<C, Discard> = self.decide(part, delivery, read);
+        let decided = C::decide(state, part, read);
         match &decided {
             Ok(decision) => {
                 let saved = self.apply_and_save(part, decision, disk, table, circuit);

@@ -20,7 +20,7 @@ use bindings_v6::Decision6;
 use config::CircuitPart;
 use lease_disk::Content;
 use replies::{write4, write6};
-use requests::RelayedMessage;
+use requests::{request4_in, request6_in};
 use timers::Deadlines;
 use types::{Circuit, Discard, FIRST_SLOT6, Key6, SLOTS, Slot4, Slot6};
 use v4_message::Message;
@@ -50,24 +50,9 @@ pub(crate) enum CircuitDecision<'a> {
     V6(CircuitDecision6<'a>),
 }
 
-/// A decision of a circuit, in one protocol or in either: how it is made of what was read of a datagram, and what it changes.
-pub(crate) trait Decide: Drop + Sized {
-    /// What is read of a datagram.
-    type Read: Drop;
-
-    ghost relayed: { Self.Read → RelayedMessage };
-
+/// A decision of a circuit, in one protocol or in either: what it changes, and what it answers.
+pub(crate) trait Decision: Drop + Sized {
     ghost decision: { Self → CircuitDecision };
-
-    /// What a client's message calls for, or why it calls for nothing. Nothing is changed.
-    fn decide(circuit: &OpenCircuit, part: &CircuitPart, read: Self::Read) -> Result<Self, Discard>
-        requires { HasPools part.now (Some circuit.now) }
-        ensures ok { (proto : Proto) (bytes : List ℕ) → IsRelayedMessage proto bytes (relayed read)
-            → IfOk result (λ made. datagram_served part.now proto bytes (open_book circuit.now)
-            ≡ served_by part.now circuit.now (decision made)) }
-        ensures err { (proto : Proto) (bytes : List ℕ) → IsRelayedMessage proto bytes (relayed read)
-            → IfErr result (λ why. datagram_served part.now proto bytes (open_book circuit.now) ≡ drop why (open_book circuit.now)) }
-        ensures fits { IfOk result (λ made. FitsCircuit (decision made) circuit.now) };
 
     /// Makes its change of its protocol's book.
     fn commit(&self, circuit: &mut OpenCircuit)
@@ -97,24 +82,51 @@ pub(crate) trait Decide: Drop + Sized {
         ensures { IsAnswer (answer_of part.now (decision self.now)) result out.new };
 }
 
+/// A decision of one protocol: how it is made of what was read of a datagram.
+pub(crate) trait Decide: Decision {
+    /// What is read of a datagram.
+    type Read: Drop;
+
+    ghost relayed: { Self.Read → RelayedMessage };
+
+    /// What a client's message calls for, or why it calls for nothing. Nothing is changed.
+    fn decide(circuit: &OpenCircuit, part: &CircuitPart, read: Self::Read) -> Result<Self, Discard>
+        requires { HasPools part.now (Some circuit.now) }
+        ensures ok { (proto : Proto) (bytes : List ℕ) → IsRelayedMessage proto bytes (relayed read)
+            → IfOk result (λ made. datagram_served part.now proto bytes (open_book circuit.now)
+            ≡ served_by part.now circuit.now (Self.decision made)) }
+        ensures err { (proto : Proto) (bytes : List ℕ) → IsRelayedMessage proto bytes (relayed read)
+            → IfErr result (λ why. datagram_served part.now proto bytes (open_book circuit.now) ≡ drop why (open_book circuit.now)) }
+        ensures fits { IfOk result (λ made. FitsCircuit (Self.decision made) circuit.now) };
+}
+
 impl<'a> Decide for CircuitDecision4<'a> {
     ghost use Rattle.requests.specs.declared.relayed_message.RelayedMessage.TheVariants as relayed_message;
-    ghost use Rattle.circuit_server.specs.declared.decision.CircuitDecision.TheVariants as either;
 
     type Read = Message<'a>;
 
     ghost relayed = { λ message. relayed_message.V4 message };
 
-    ghost decision = { λ made. either.V4 made };
-
+    // inlined: to move what was decided takes longer than to decide
     #[inline(always)]
     fn decide(
         circuit: &OpenCircuit,
         _part: &CircuitPart,
         message: Message<'a>,
     ) -> Result<CircuitDecision4<'a>, Discard> {
-        circuit.decide4(message)
+        let request = match request4_in(&message) {
+            Ok(request) => request,
+            Err(why) => return Err(why),
+        };
+        let decision = circuit.four.decide(&request, circuit.clock);
+        Ok(CircuitDecision4 { message, decision })
     }
+}
+
+impl<'a> Decision for CircuitDecision4<'a> {
+    ghost use Rattle.circuit_server.specs.declared.decision.CircuitDecision.TheVariants as either;
+
+    ghost decision = { λ made. either.V4 made };
 
     fn commit(&self, circuit: &mut OpenCircuit) {
         circuit.four.commit(&self.decision);
@@ -150,21 +162,37 @@ impl<'a> Decide for CircuitDecision4<'a> {
 
 impl<'a> Decide for CircuitDecision6<'a> {
     ghost use Rattle.requests.specs.declared.relayed_message.RelayedMessage.TheVariants as relayed_message;
-    ghost use Rattle.circuit_server.specs.declared.decision.CircuitDecision.TheVariants as either;
 
     type Read = Relay6<'a>;
 
     ghost relayed = { λ forward. relayed_message.V6 forward };
-
-    ghost decision = { λ made. either.V6 made };
 
     fn decide(
         circuit: &OpenCircuit,
         part: &CircuitPart,
         forward: Relay6<'a>,
     ) -> Result<CircuitDecision6<'a>, Discard> {
-        circuit.decide6(part, forward)
+        let Some(bytes) = forward.relay_message() else {
+            return Err(Discard::Malformed);
+        };
+        let (message, request) = match request6_in(part, bytes) {
+            Ok(asked) => asked,
+            Err(why) => return Err(why),
+        };
+        let decision = circuit.six.decide(&request, circuit.clock);
+        Ok(CircuitDecision6 {
+            forward,
+            message,
+            client: request.key,
+            decision,
+        })
     }
+}
+
+impl<'a> Decision for CircuitDecision6<'a> {
+    ghost use Rattle.circuit_server.specs.declared.decision.CircuitDecision.TheVariants as either;
+
+    ghost decision = { λ made. either.V6 made };
 
     fn commit(&self, circuit: &mut OpenCircuit) {
         circuit.six.commit(&self.decision);
@@ -197,29 +225,8 @@ impl<'a> Decide for CircuitDecision6<'a> {
     }
 }
 
-impl<'a> Decide for CircuitDecision<'a> {
-    type Read = RelayedMessage<'a>;
-
-    ghost relayed = { λ read. read };
-
+impl<'a> Decision for CircuitDecision<'a> {
     ghost decision = { λ made. made };
-
-    fn decide(
-        circuit: &OpenCircuit,
-        part: &CircuitPart,
-        read: RelayedMessage<'a>,
-    ) -> Result<CircuitDecision<'a>, Discard> {
-        match read {
-            RelayedMessage::V4(message) => match circuit.decide4(message) {
-                Ok(made) => Ok(CircuitDecision::V4(made)),
-                Err(why) => Err(why),
-            },
-            RelayedMessage::V6(forward) => match circuit.decide6(part, forward) {
-                Ok(made) => Ok(CircuitDecision::V6(made)),
-                Err(why) => Err(why),
-            },
-        }
-    }
 
     fn commit(&self, circuit: &mut OpenCircuit) {
         match self {

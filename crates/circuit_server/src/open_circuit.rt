@@ -1,15 +1,11 @@
 //! What the server has of an open circuit.
-ghost use Rattle.std.specs.Prelude.{◌≡◌, ◌<◌, ◌≤◌, ◌+◌, true, option_map, IfOk, IfErr, IfSome, Some, Ok, Err};
+ghost use Rattle.std.specs.Prelude.{◌≡◌, ◌<◌, ◌≤◌, ◌+◌, true, option_map, IfSome, Some};
 ghost use Rattle.types.specs.Slots.{last_until};
-ghost use Rattle.circuit_server.specs.declared.decision.CircuitDecision.TheVariants as either;
 ghost use Rattle.slots.specs.Kept.{AreWithin};
-ghost use Rattle.config.specs.CircuitPart as parts;
-ghost use Rattle.circuit_server.specs.CircuitDecision.{FitsCircuit, served_by};
 ghost use Rattle.circuit_server.specs.Deadlines.{held_until};
 ghost use Rattle.circuit_server.specs.Leases.{book_in, found_book};
 ghost use Rattle.circuit_server.specs.Prepared.{saving_of};
-ghost use Rattle.requests.specs.Request4.{request4_in};
-ghost use Rattle.circuit_server.specs.Server.{book_at, drop, forward_served, kept_book, message4_served};
+ghost use Rattle.circuit_server.specs.Server.{book_at, kept_book};
 ghost use Rattle.circuit_server.specs.CircuitServerValue.{HasPools, IsReadyFor, counts_in, kept_slots, open_book};
 ghost use Rattle.circuit_server.specs.Ticked.{open_at};
 ghost use Rattle.lease_disk.specs.Book.{IsBook};
@@ -17,22 +13,18 @@ ghost use Rattle.lease_disk.specs.Device.{TouchesNothing};
 ghost use Rattle.lease_disk.specs.Layout.{is_format2};
 ghost use Rattle.lease_disk.specs.Region.{IsClean, Region};
 
-use crate::decision::{CircuitDecision4, CircuitDecision6};
 use bindings_v4::Book4;
 use bindings_v6::Book6;
 use config::CircuitPart;
 use lease_disk::{Content, Disk, Marks, Saving, recover};
-use requests::{request4_in, request6_in};
 use std::marker::Model;
-use types::{Discard, FIRST_SLOT6, Moment, Slot4, Slot6, Slots};
-use v4_message::Message;
-use v6_message::Relay6;
+use types::{FIRST_SLOT6, Moment, Slot4, Slot6, Slots};
 
 /// An open circuit: its clock, its book of each protocol, and what the next save has to know of its
 /// region.
 #[derive(Drop)]
 pub(crate) struct OpenCircuit {
-    clock: Moment,
+    pub(crate) clock: Moment,
     pub(crate) four: Book4,
     pub(crate) six: Book6,
     pub(crate) marks: Marks,
@@ -111,52 +103,6 @@ impl OpenCircuit {
         self.four.put(&mut slots);
         self.six.put(&mut slots);
         slots
-    }
-
-    /// What a DHCPv4 message calls for.
-    // inlined, as is all that hands the decision on: to move it three times takes longer than to decide
-    #[inline(always)]
-    pub(crate) fn decide4<'a>(&self, message: Message<'a>) -> Result<CircuitDecision4<'a>, Discard>
-        ensures ok { (part : parts.CircuitPart) → HasPools part (Some self.now) → IfOk result (λ made.
-            message4_served part (open_book self.now) (Ok message.entry) ≡ served_by part self.now (either.V4 made)) }
-        ensures err { IfErr result (λ why. request4_in message.entry ≡ Err why) }
-        ensures fits { IfOk result (λ made. FitsCircuit (either.V4 made) self.now) }
-    {
-        let request = match request4_in(&message) {
-            Ok(request) => request,
-            Err(why) => return Err(why),
-        };
-        let decision = self.four.decide(&request, self.clock);
-        Ok(CircuitDecision4 { message, decision })
-    }
-
-    /// What the message in a Relay-forward calls for.
-    pub(crate) fn decide6<'a>(
-        &self,
-        part: &CircuitPart,
-        forward: Relay6<'a>,
-    ) -> Result<CircuitDecision6<'a>, Discard>
-        requires { HasPools part.now (Some self.now) }
-        ensures ok { IfOk result (λ made.
-            forward_served part.now (open_book self.now) (Ok forward.entry) ≡ served_by part.now self.now (either.V6 made)) }
-        ensures err { IfErr result (λ why.
-            forward_served part.now (open_book self.now) (Ok forward.entry) ≡ drop why (open_book self.now)) }
-        ensures fits { IfOk result (λ made. FitsCircuit (either.V6 made) self.now) }
-    {
-        let Some(bytes) = forward.relay_message() else {
-            return Err(Discard::Malformed);
-        };
-        let (message, request) = match request6_in(part, bytes) {
-            Ok(asked) => asked,
-            Err(why) => return Err(why),
-        };
-        let decision = self.six.decide(&request, self.clock);
-        Ok(CircuitDecision6 {
-            forward,
-            message,
-            client: request.key,
-            decision,
-        })
     }
 
     /// What a save is to be given, where this slot of the region is to hold this from the circuit's clock on. What the region

@@ -1,10 +1,12 @@
 -- One datagram alone is a batch of one.
-use Rattle.std.proofs.Common.{◌≡◌, ◌∙◌, ◌==◌, ◌||◌, ◌&&◌, nat_le, not, ℕ, zero, suc, Bool, true, false, List, [], ◌∷◌, map, take, refl, sym, ap, subst}
-use Rattle.std.specs.Prelude.{Option, Some, None, option_map, Result, Ok, Err, slice_get, slice_set, if◌then◌else◌}
+use Rattle.std.proofs.Common.{Bor, ◌<◌, ◌≤◌, ◌≡◌, ◌∙◌, ◌==◌, ◌||◌, ◌&&◌, nat_le, not, ℕ, zero, suc, Bool, true, false, List, [], ◌∷◌, length, map, take, refl, sym, ap, subst, arith}
+use Rattle.std.specs.Prelude.{Option, Some, None, option_map, Result, Ok, Err, slice_get, slice_index_or, slice_set, if◌then◌else◌}
 use Rattle.std.specs.List.{cons_option}
 use Rattle.std.proofs.lemmas.Bool.{eqb-true, or_parts}
 use Rattle.std.proofs.lemmas.Option.{same_Some, slice_get-map}
-use Rattle.types.specs.Delivery.{DeliveryValue}
+use Rattle.types.specs.Delivery.{DeliveryValue, delivery}
+use Rattle.types.specs.declared.addr.Source.{Source}
+use Rattle.types.specs.declared.dest.Proto.{Proto}
 use Rattle.types.specs.declared.discard.Discard.{Discard}
 use Rattle.lease_disk.specs.Device.{Device, WritesAt, has_failed, is_in}
 use Rattle.lease_disk.specs.Region.{Region, effective}
@@ -12,17 +14,18 @@ use Rattle.batch_saves.specs.Batch.{first_of, shared_fault}
 use Rattle.config.specs.CircuitPart.{CircuitPart}
 use Rattle.config.specs.Topology.{Topology}
 use Rattle.requests.specs.Addressee.{addressee}
-use Rattle.circuit_server.specs.Answered.{IsAnswer, circuit_saves, fails_at}
-use Rattle.circuit_server.specs.Calls.{IsCalledToSave, IsCalledToSaveAt}
+use Rattle.circuit_server.specs.Answered.{circuit_saves, fails_at}
+use Rattle.circuit_server.specs.Calls.{IsCalledToSave}
 use Rattle.circuit_server.specs.CircuitServerValue.{CircuitServerValue, server_book, leases_of}
 use Rattle.circuit_server.specs.Leases.{Leases, after_datagram, after_saving, kept, served_leases}
 use Rattle.circuit_server.specs.Server.{Book, Served, served}
 use Rattle.dispatch.specs.Answers.{answer_by}
-use Rattle.dispatch.specs.Batch.{IsBatchOfLeases, IsWrittenTogether, batch_fault, batch_saves, comes_again, is_circuit, is_named}
+use Rattle.dispatch.specs.Batch.{IsBatchOfLeases, IsWrittenTogether, batch_fault, batch_saves, comes_again, deliveries, is_circuit, is_named}
 use Rattle.dispatch.specs.OneByOne.{AreOfOthers}
 use Rattle.dispatch.specs.Parts.{IsReceivedBatch}
+use Rattle.dispatch.specs.ReceivedAlone.{IsReceived}
 use Rattle.dispatch.specs.Received.{addressee_leases, addressee_saves, leases_with, received, received_leases, received_saves}
-use Rattle.dispatch.specs.ServerValue.{AreReady, ServerValue, books_in, circuits_in, leases_in}
+use Rattle.dispatch.specs.ServerValue.{ServerValue, books_in, circuits_in, leases_in}
 use Rattle.dispatch.proofs.BatchLemmas.{answer_is}
 use Rattle.dispatch.proofs.OneByOne.{batch_back, set_elsewhere}
 use Rattle.dispatch.proofs.PartLemmas.{not_both, same_number}
@@ -176,24 +179,28 @@ books_shown regions xs c = slice_get-map server_book xs c ∙ one (slice_get xs 
   one (Some x) = refl
 
 pub received_batch_of_one : (tells : Bool) (d : DeliveryValue) (s later_s : ServerValue) (was later : Device) (result : Result (Unit {0}) Discard) (out : List ℕ) (given : List (Result (List ℕ) Discard))
-    → IsAnswer (received s.topology d (has_failed was later) (books_in s)).answer result out → books_in later_s ≡ (received s.topology d (has_failed was later) (books_in s)).books
-    → (tells ≡ true → (r : ℕ) → has_failed was later r ≡ fails_at was.failing_call (received_saves s.topology d (books_in s)) r)
-    → (tells ≡ true → leases_in later.region later_s ≡ received_leases s.topology d was.failing_call (leases_in was.region s)) → (tells ≡ true → AreReady later.region later_s)
-    → WritesAt tells (received_saves s.topology d (books_in s)) was later → IsCalledToSaveAt (received_saves s.topology d (books_in s)) was later → given ≡ answer_by result out ∷ [] → IsReceivedBatch tells (d ∷ []) given s later_s was later
-received_batch_of_one tells d s later_s was later result out given answer books fails leases ready frame calls is =
+    → IsReceived tells d result out s later_s was later → given ≡ answer_by result out ∷ [] → IsReceivedBatch tells (d ∷ []) given s later_s was later
+received_batch_of_one tells d s later_s was later result out given one is =
     let t = s.topology in
     let saves = received_saves t d (books_in s) in
     let its : batch_saves t (d ∷ []) (books_in s) ≡ alone saves = saves_alone t d (books_in s) in
     record {
       answers =
           batch_back t (has_failed was later) (d ∷ []) (books_in s) (books_in later_s) given (of_others t d)
-          (is ∙ ap (λ a. a ∷ []) (sym (answer_is (received t d (has_failed was later) (books_in s)).answer result out answer))) books;
-      frame = subst (λ regions. IsWrittenTogether tells regions was later) (sym its) (written_alone tells saves was later frame);
-      calls = subst (λ regions. IsCalledToSave regions was later) (sym its) calls;
-      fails = λ told r. fails told r ∙ fails_alone was.failing_call saves r ∙ ap (λ regions. is_in regions r && not (batch_fault was.failing_call regions r == 0)) (sym its);
+          (is ∙ ap (λ a. a ∷ []) (sym (answer_is (received t d (has_failed was later) (books_in s)).answer result out one.answer))) one.books;
+      frame = subst (λ regions. IsWrittenTogether tells regions was later) (sym its) (written_alone tells saves was later one.frame);
+      calls = subst (λ regions. IsCalledToSave regions was later) (sym its) one.calls;
+      fails = λ told r. one.fails told r ∙ fails_alone was.failing_call saves r ∙ ap (λ regions. is_in regions r && not (batch_fault was.failing_call regions r == 0)) (sym its);
       leases = λ told.
           subst (λ regions. IsBatchOfLeases t (d ∷ []) (batch_fault was.failing_call regions) (leases_in was.region s) (leases_in later.region later_s)) (sym its)
           (leases_alone d (batch_fault was.failing_call (alone saves)) t (leases_in was.region s) (leases_in later.region later_s)
-          (leases told ∙ received_alone d was.failing_call t (leases_in was.region s) (books_in s) (books_shown was.region (circuits_in s))));
-      ready = ready;
+          (one.leases told ∙ received_alone d was.failing_call t (leases_in was.region s) (books_in s) (books_shown was.region (circuits_in s))));
+      ready = one.ready;
     }
+
+-- the parts of a batch of one are its only part
+pub only_one : (now : ℕ) (parts : List (Proto × Source × Bor (List ℕ))) (none : Proto × Source × Bor (List ℕ)) → 1 ≤ length parts → length parts < 2
+    → deliveries now parts ≡ delivery (slice_index_or parts 0 none).0 (slice_index_or parts 0 none).1 now (slice_index_or parts 0 none).2.now ∷ []
+only_one now [] none some few = absurd (omega (arith, some))
+only_one now (part ∷ []) none some few = refl
+only_one now (part ∷ other ∷ parts) none some few = absurd (omega (arith, few))

@@ -7,7 +7,7 @@ use Rattle.types.specs.declared.discard.Discard.{Discard}
 use Rattle.lease_disk.specs.declared.device.Fault.{Fault}
 use Rattle.lease_disk.specs.declared.marks.Marks.{Marks}
 use Rattle.config.specs.CircuitPart.{CircuitPart}
-use Rattle.circuit_server.specs.Deadlines.{UnchangedOrUntilHeld, HasDeadlines, OthersUnchanged, held_in}
+use Rattle.circuit_server.specs.Deadlines.{UnchangedOrUntilHeld, HasDeadlines, OtherEntriesUnchanged, held_in}
 use Rattle.circuit_server.specs.Prepared.{IsSettled}
 use Rattle.circuit_server.specs.Ticked.{server_state}
 use Rattle.circuit_server.specs.declared.prepared.Prepared.{Prepared}
@@ -31,7 +31,7 @@ get_set_other (x ∷ xs) (suc i) zero y other = refl
 get_set_other (x ∷ xs) (suc i) (suc c) y other = get_set_other xs i c y (λ same. other (ap suc same))
 
 -- another circuit's deadlines stay
-pub still_has : (first other : ℕ) (old new : DeadlinesValue) (state : Option OpenCircuitValue) → OthersUnchanged first old new → (other + 32 ≤ first) ⊎ (first + 32 ≤ other) → HasDeadlines old other state → HasDeadlines new other state
+pub still_has : (first other : ℕ) (old new : DeadlinesValue) (state : Option OpenCircuitValue) → OtherEntriesUnchanged first old new → (other + 32 ≤ first) ⊎ (first + 32 ≤ other) → HasDeadlines old other state → HasDeadlines new other state
 still_has first other old new None same apart has = λ s below. same.beside (other + s) (outside first other s below apart) ∙ has s below where
   outside : (first other s : ℕ) → s < 32 → (other + 32 ≤ first) ⊎ (first + 32 ≤ other) → (other + s < first) ⊎ (first + 32 ≤ other + s)
   outside first other s below (inl h) = inl (omega (arith, below, h))
@@ -56,7 +56,7 @@ aside c k s other below = by (sides c k other) where
 
 -- ---- the deadlines of other circuits
 
-pub kept_beside : (k : ℕ) (among : ℕ → Bool) (old new : DeadlinesValue) → ((c : ℕ) → among c ≡ false → c ≡ k → ⊥) → OthersUnchanged (32 * k) old new → KeepsDeadlines among old new
+pub kept_beside : (k : ℕ) (among : ℕ → Bool) (old new : DeadlinesValue) → ((c : ℕ) → among c ≡ false → c ≡ k → ⊥) → OtherEntriesUnchanged (32 * k) old new → KeepsDeadlines among old new
 kept_beside k among old new apart same = record { examined = same.examined; others = λ c s is below. same.beside (32 * c + s) (aside c k s (apart c is) below) }
 
 pub kept_wider : (among wide : ℕ → Bool) (old new : DeadlinesValue) → ((c : ℕ) → wide c ≡ false → among c ≡ false) → KeepsDeadlines among old new → KeepsDeadlines wide old new
@@ -71,7 +71,7 @@ kept_all among table = record { examined = refl; others = λ c s is below. refl 
 -- ---- what was so before, or is held now
 
 -- one circuit's are so, and those of the others stay
-pub held_all : (k : ℕ) (states : List (Option OpenCircuitValue)) (own : Option OpenCircuitValue) (old new : DeadlinesValue) → own ≡ server_state states k → OthersUnchanged (32 * k) old new → UnchangedOrUntilHeld (32 * k) old new own
+pub held_all : (k : ℕ) (states : List (Option OpenCircuitValue)) (own : Option OpenCircuitValue) (old new : DeadlinesValue) → own ≡ server_state states k → OtherEntriesUnchanged (32 * k) old new → UnchangedOrUntilHeld (32 * k) old new own
     → AllUnchangedOrUntilHeld old new states
 held_all k states own old new is same one c state there s below = by (c == k) refl where
   by : (b : Bool) → (c == k) ≡ b → (deadline new (32 * c + s) ≡ deadline old (32 * c + s)) ⊎ (deadline new (32 * c + s) ≡ held_in state s)
@@ -89,7 +89,7 @@ then_held before middle later held (inr was) (inl still) = inr (still ∙ was)
 
 -- one circuit is settled, and the others stay
 pub settled_all : (k : ℕ) (states left : List (Option OpenCircuitValue)) (own : Option OpenCircuitValue) (before old new : DeadlinesValue) (part : CircuitPart) (prepared : Prepared) (saved : Result (Option Marks) Fault)
-    (result : Result (Unit {0}) Discard) (out : List ℕ) → left ≡ slice_set states k own → k < length states → OthersUnchanged (32 * k) old new → IsSettled part prepared saved (server_state states k) own result out → UnchangedOrUntilHeld (32 * k) old new own
+    (result : Result (Unit {0}) Discard) (out : List ℕ) → left ≡ slice_set states k own → k < length states → OtherEntriesUnchanged (32 * k) old new → IsSettled part prepared saved (server_state states k) own result out → UnchangedOrUntilHeld (32 * k) old new own
     → HasDeadlines new (32 * k) own → AllUnchangedOrUntilHeld before old states → AllUnchangedOrUntilHeld before new left
 settled_all k states left own before old new part prepared saved result out is within same settled one has was c state there = by (c == k) refl where
   by : (b : Bool) → (c == k) ≡ b → UnchangedOrUntilHeld (32 * c) before new state
@@ -113,7 +113,7 @@ pub none_set : (table : DeadlinesValue) (states : List (Option OpenCircuitValue)
 none_set table states = record { each = λ c s state below there small. absurd (omega (arith, below)) }
 
 pub set_more : (count : ℕ) (table after : DeadlinesValue) (states : List (Option OpenCircuitValue)) (new : Option OpenCircuitValue) → count < length states → SetFirst count table states
-    → ((s : ℕ) → s < 32 → deadline after (32 * count + s) ≡ held_in new s) → OthersUnchanged (32 * count) table after → SetFirst (count + 1) after (set states count new)
+    → ((s : ℕ) → s < 32 → deadline after (32 * count + s) ≡ held_in new s) → OtherEntriesUnchanged (32 * count) table after → SetFirst (count + 1) after (set states count new)
 set_more count table after states new within firsts own same = record { each = λ c s state below there small. by c s state below there small (c == count) refl } where
   by : (c s : ℕ) (state : Option OpenCircuitValue) → c < count + 1 → slice_get (set states count new) c ≡ Some state → s < 32 → (b : Bool) → (c == count) ≡ b → deadline after (32 * c + s) ≡ held_in state s
   by c s state below there small true e =
@@ -139,7 +139,7 @@ all_held table states size anew = record { size = size; each = λ c state there.
 
 -- one circuit's are changed, of all that have theirs
 pub one_held : (c : ℕ) (table after : DeadlinesValue) (states : List (Option OpenCircuitValue)) (new : Option OpenCircuitValue) → c < length states → HoldsDeadlines table states
-    → HasDeadlines after (32 * c) new → OthersUnchanged (32 * c) table after → HoldsDeadlines after (set states c new)
+    → HasDeadlines after (32 * c) new → OtherEntriesUnchanged (32 * c) table after → HoldsDeadlines after (set states c new)
 one_held k table after states new within holds own same =
     record {
       size = same.size ∙ holds.size ∙ ap (λ n. 32 * n) (sym (length-set states k new));

@@ -1,5 +1,5 @@
 -- One part of a batch more.
-use Rattle.std.proofs.Common.{inl, inr, ◌≡◌, ◌∙◌, ◌+◌, ◌*◌, ◌<◌, ◌≤◌, ◌==◌, ◌||◌, ℕ, zero, suc, Bool, true, false, List, [], ◌∷◌, ◌++◌, length, take, refl, sym, ap, subst, arith}
+use Rattle.std.proofs.Common.{inl, inr, ◌≡◌, ◌∙◌, ◌+◌, ◌*◌, ◌<◌, ◌≤◌, ◌==◌, ◌||◌, ℕ, zero, suc, Bool, true, false, List, [], ◌∷◌, ◌++◌, length, map, take, refl, sym, ap, subst, arith}
 use Rattle.std.specs.Prelude.{◌⊎◌, Option, Some, None, Result, Ok, Err, slice_get}
 use Rattle.std.specs.List.{list_any}
 use Rattle.std.proofs.lemmas.Bool.{or_right}
@@ -16,7 +16,8 @@ use Rattle.circuit_server.specs.Ticked.{server_state}
 use Rattle.circuit_server.specs.declared.prepared.Prepared.{Prepared}
 use Rattle.timers.specs.Deadlines.{DeadlinesValue, deadline}
 use Rattle.circuit_server.specs.Deadlines.{held_in}
-use Rattle.dispatch.specs.Batch.{is_circuit, is_named}
+use Rattle.dispatch.specs.Answers.{circuit_in}
+use Rattle.dispatch.specs.Batch.{circuits_of, is_circuit, is_named}
 use Rattle.dispatch.specs.Deadlines.{AllUnchangedOrUntilHeld, KeepsDeadlines}
 use Rattle.dispatch.specs.Parts.{AreDecided, IsDecided, IsOf, IsPart, has_named}
 use Rattle.dispatch.proofs.HeldDeadlines.{kept_both, kept_wider, then_held}
@@ -32,6 +33,17 @@ module _ {A : Type 0} (f : A → Bool) where
   any_there (y ∷ xs) zero j x less is holds = absurd (omega (arith, less))
   any_there (y ∷ xs) (suc i) zero x less is holds = ap (λ b. b || list_any f (take i xs)) (ap f (same_Some y x is) ∙ holds)
   any_there (y ∷ xs) (suc i) (suc j) x less is holds = ap (λ b. f y || b) (any_there xs i j x (omega (arith, less)) is holds) ∙ or_right (f y) true refl
+
+-- one place more of what is made of each
+map_next : {A B : Type 0} (f : A → B) (xs : List A) (i : ℕ) (x : A) → slice_get xs i ≡ Some x → map f (take (suc i) xs) ≡ map f (take i xs) ++ f x ∷ []
+map_next f [] i x is = absurd cc
+map_next f (y ∷ xs) zero x is = ap (λ z. f z ∷ []) (same_Some y x is)
+map_next f (y ∷ xs) (suc i) x is = ap (λ zs. f y ∷ zs) (map_next f xs i x is)
+
+map_more : {A B : Type 0} (f : A → B) (xs : List A) (i : ℕ) (x : A) → slice_get xs i ≡ Some x → map f (take (i + 1) xs) ≡ map f (take i xs) ++ f x ∷ []
+map_more f xs i x is =
+    let one : suc i ≡ i + 1 = omega arith in
+    subst (λ n. map f (take n xs) ≡ map f (take i xs) ++ f x ∷ []) one (map_next f xs i x is)
 
 found_by : {A : Type 0} (f : A → Bool) (xs : List A) (i : ℕ) (y : A) → (list_any f (take i xs) ≡ true → (j : ℕ) × (x : A) × (j < i) × (slice_get xs j ≡ Some x) × (f x ≡ true))
     → (b : Bool) → f y ≡ b → (b || list_any f (take i xs)) ≡ true → (j : ℕ) × (x : A) × (j < suc i) × (slice_get (y ∷ xs) j ≡ Some x) × (f x ≡ true)
@@ -185,3 +197,8 @@ kept_more topology ds i d old now new here before next =
     (kept_wider (λ k. is_circuit k (addressee topology d)) (is_named topology (take (i + 1) ds)) now new (λ k none. right_false (is_named topology (take i ds) k) (is_circuit k (addressee topology d)) (so k none)) next) where
       so : (k : ℕ) → is_named topology (take (i + 1) ds) k ≡ false → (is_named topology (take i ds) k || is_circuit k (addressee topology d)) ≡ false
       so k none = sym (any_more (λ x. is_circuit k (addressee topology x)) ds i d here) ∙ none
+
+-- the circuit of one part more
+pub circuits_more : (topology : Topology) (ds : List DeliveryValue) (i : ℕ) (d : DeliveryValue) (circuits : List (Option ℕ)) → slice_get ds i ≡ Some d → circuits ≡ circuits_of topology (take i ds)
+    → circuits ++ circuit_in (addressee topology d) ∷ [] ≡ circuits_of topology (take (i + 1) ds)
+circuits_more topology ds i d circuits here are = ap (λ cs. cs ++ circuit_in (addressee topology d) ∷ []) are ∙ sym (map_more (λ x. circuit_in (addressee topology x)) ds i d here)

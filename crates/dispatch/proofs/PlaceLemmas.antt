@@ -1,8 +1,8 @@
 -- An answer that is added to those of a batch.
 use Rattle.std.proofs.Common.{◌≡◌, ◌<◌, ◌≤◌, ◌+◌, ℕ, zero, suc, List, [], ◌∷◌, ◌++◌, length, map, set, take, refl, ap, subst, arith}
-use Rattle.std.specs.Prelude.{Result}
+use Rattle.std.specs.Prelude.{Option, Result}
 use Rattle.types.specs.declared.discard.Discard.{Discard}
-use Rattle.dispatch.specs.Answers.{answer_of}
+use Rattle.dispatch.specs.Answers.{AnswersValue, answer_of}
 use Rattle.dispatch.specs.declared.server.batch_answers.Answer.{Answer}
 
 next_added : (n : ℕ) (places : List Answer) (a : Answer) (answer : Result (List ℕ) Discard) → n < length places → answer_of a ≡ answer → map answer_of (take (suc n) (set places n a)) ≡ map answer_of (take n places) ++ answer ∷ []
@@ -14,6 +14,16 @@ pub added : (n : ℕ) (places : List Answer) (a : Answer) (answer : Result (List
 added n places a answer within is =
     let one : suc n ≡ n + 1 = omega arith in
     subst (λ m. map answer_of (take m (set places n a)) ≡ map answer_of (take n places) ++ answer ∷ []) one (next_added n places a answer within is)
+
+-- what shows of so many places
+abbrev pub shown : List (Option ℕ) → ℕ → List Answer → AnswersValue
+shown circuits n places = record { circuits = circuits; answers = map answer_of (take n places) }
+
+pub added_to : (circuits : List (Option ℕ)) (n : ℕ) (places : List Answer) (a : Answer) (answer : Result (List ℕ) Discard) (now : AnswersValue) → shown circuits n places ≡ now → n < length places → answer_of a ≡ answer
+    → shown circuits (n + 1) (set places n a) ≡ record now { answers = now.answers ++ answer ∷ [] }
+added_to circuits n places a answer now is within made =
+    let P : AnswersValue → Type 0 = λ v. shown circuits (n + 1) (set places n a) ≡ record v { answers = v.answers ++ answer ∷ [] } in
+    subst P is (ap (λ (xs : List (Result (List ℕ) Discard)). record (shown circuits n places) { answers = xs }) (added n places a answer within made))
 
 counted : (n : ℕ) (places : List Answer) → n ≤ length places → length (map answer_of (take n places)) ≡ n
 counted zero places within = refl

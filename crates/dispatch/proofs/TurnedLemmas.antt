@@ -12,7 +12,7 @@ use Rattle.lease_disk.specs.Region.{Region}
 use Rattle.timers.specs.Deadlines.{DeadlinesValue, deadline}
 use Rattle.bindings_v4.proofs.OfferLemmas.{same_kept, shown_without}
 use Rattle.bindings_v6.specs.Slots6 as slots6
-use Rattle.circuit_server.specs.Deadlines.{HasDeadlines, OthersUnchanged, held_in}
+use Rattle.circuit_server.specs.Deadlines.{HasDeadlines, OtherEntriesUnchanged, held_in}
 use Rattle.dispatch.specs.ServerValue.{HoldsDeadlines, with_states}
 use Rattle.circuit_server.specs.Leases.{Leases, formats_of, restarts_of, turned}
 use Rattle.circuit_server.specs.Server.{kept_book}
@@ -146,7 +146,7 @@ one_stays off n old new before after stays are = subst (λ (p : ℕ → Bool). A
 -- one more that turns off
 module _ (off : ℕ → Bool) (n : ℕ) (old mid : List (Option OpenCircuitValue)) (before table after : DeadlinesValue) (goes : off n ≡ true) (within : n < length mid)
     (are : AreTurned (so_far off n) old mid before table) (own : (s : ℕ) → s < 32 → deadline after (32 * n + s) ≡ held_in (state_unoffered (server_state mid n)) s)
-    (has : HasDeadlines after (32 * n) (state_unoffered (server_state mid n))) (same : OthersUnchanged (32 * n) table after) where
+    (has : HasDeadlines after (32 * n) (state_unoffered (server_state mid n))) (same : OtherEntriesUnchanged (32 * n) table after) where
   abbrev its : Option OpenCircuitValue
   its = state_unoffered (server_state mid n)
 

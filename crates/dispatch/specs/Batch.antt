@@ -15,6 +15,7 @@ use Rattle.config.specs.Topology.{Topology}
 use Rattle.requests.specs.Addressee.{addressee}
 use Rattle.circuit_server.specs.Leases.{Leases}
 use Rattle.circuit_server.specs.Server.{Book}
+use Rattle.dispatch.specs.Answers.{circuit_in}
 use Rattle.dispatch.specs.Received.{Received, drop_all, received, received_leases, received_saves}
 
 -- the datagrams of a batch at one moment, each with its protocol and its source
@@ -35,6 +36,10 @@ is_named topology parts c = list_any (λ d. is_circuit c (addressee topology d))
 abbrev pub comes_again : Topology → List DeliveryValue → Result ℕ Discard → Bool
 comes_again topology earlier (Ok c) = is_named topology earlier c
 comes_again topology earlier (Err why) = false
+
+-- of each the circuit that it is of, if it is of one
+abbrev pub circuits_of : Topology → List DeliveryValue → List (Option ℕ)
+circuits_of topology parts = map (λ d. circuit_in (addressee topology d)) parts
 
 -- ---- one part, after these
 

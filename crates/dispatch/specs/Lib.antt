@@ -5,6 +5,7 @@ pub mod OneByOne
 pub mod Parts
 pub mod ReadBack
 pub mod Received
+pub mod ReceivedAlone
 pub mod Regions
 pub mod Restarted
 pub mod ServerValue

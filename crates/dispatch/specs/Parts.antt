@@ -1,5 +1,5 @@
 -- What is made of the parts of a batch before anything is saved. Only proofs need this.
-use Rattle.std.specs.Prelude.{◌≡◌, ◌⊎◌, ℕ, ◌==◌, ◌<◌, ◌≤◌, ◌&&◌, not, Bool, true, false, if◌then◌else◌, List, [], length, take, None, Some, slice_get, slice_set, Option, Result, Ok, Err}
+use Rattle.std.specs.Prelude.{◌≡◌, ◌⊎◌, ℕ, ◌==◌, ◌<◌, ◌≤◌, ◌&&◌, not, Bool, true, false, if◌then◌else◌, List, [], ◌∷◌, ◌++◌, length, take, None, Some, slice_get, slice_set, Option, Result, Ok, Err}
 use Rattle.std.specs.List.{filter_map, list_any}
 use Rattle.types.specs.Delivery.{DeliveryValue}
 use Rattle.types.specs.declared.discard.Discard.{Discard}
@@ -16,10 +16,14 @@ use Rattle.circuit_server.specs.Calls.{IsCalledToSave}
 use Rattle.circuit_server.specs.CircuitServerValue.{OpenCircuitValue}
 use Rattle.circuit_server.specs.Prepared.{IsDropped, IsPrepared, IsSettled}
 use Rattle.circuit_server.specs.Ticked.{server_state}
-use Rattle.dispatch.specs.Answers.{answer_by}
+use Rattle.dispatch.specs.Answers.{AnswersValue, answer_by, circuit_in}
 use Rattle.dispatch.specs.Batch.{IsBatch, IsBatchOfLeases, IsWrittenTogether, batch_fault, batch_saves, is_named}
 use Rattle.dispatch.specs.ServerValue.{AreReady, ServerValue, books_in, leases_in}
 use Rattle.circuit_server.specs.declared.prepared.Prepared.{Prepared}
+
+-- the answers with the circuit of the next part, if it is of one
+abbrev pub with_circuit : Result ℕ Discard → AnswersValue → AnswersValue
+with_circuit found answers = record answers { circuits = answers.circuits ++ circuit_in found ∷ [] }
 
 abbrev pub has_named : List ℕ → ℕ → Bool
 has_named named c = list_any (λ n. n == c) named

@@ -1,5 +1,5 @@
 //! What holds of every circuit's server: functions that do nothing, for their contracts.
-ghost use Rattle.std.specs.Prelude.{◌≡◌, ◌↔◌, ℕ, Bool, List, Option, Result, Ok, max};
+ghost use Rattle.std.specs.Prelude.{◌≡◌, ◌↔◌, ℕ, All, Bool, List, Option, Result, Ok, max};
 ghost use Rattle.types.specs.Delivery.{DeliveryValue};
 ghost use Rattle.types.specs.declared.discard.Discard as discard;
 ghost use Rattle.types.specs.declared.dest.Proto.TheVariants.{V4, V6};
@@ -12,6 +12,10 @@ ghost use Rattle.dispatch.specs.OneByOne.{AreOfOthers, answers_to, books_after};
 ghost use Rattle.dispatch.specs.ReadBack.{IsReadBack};
 ghost use Rattle.wire.specs.Bytes.{AreBytes};
 ghost use Rattle.circuit_server.specs.Server.{Book, IsBook, book_at, kept_book, served};
+ghost use Rattle.circuit_server.specs.SlotsOfPools.{HasItsSlots};
+ghost use Rattle.dispatch.specs.ServerValue.{circuits_in};
+
+use crate::server::Server;
 
 /// A server begins with a book, and a book it stays, whatever moment passes and whatever datagram is
 /// served: every entry is live, no address is named twice, and no client has both a binding and an
@@ -57,3 +61,10 @@ pub fn is_one_by_one()
         → IsBatch topology parts fails old new answers
         ↔ ((answers ≡ answers_to topology fails parts old) × (new ≡ books_after topology fails parts old)) }
 {}
+
+/// Each open circuit has the slots of its pools.
+pub fn has_slots_of_pools(server: &Server)
+    ensures { All HasItsSlots (circuits_in server.now) }
+{
+    server.has_slots_of_pools();
+}

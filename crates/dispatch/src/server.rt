@@ -1,5 +1,5 @@
 //! The server of all circuits, over a device that keeps their leases.
-ghost use Rattle.std.specs.Prelude.{◌≡◌, ◌<◌, ◌≤◌, ◌+◌, ◌*◌, ◌↔◌, ℕ, Option, length, map, replicate, slice_get, None};
+ghost use Rattle.std.specs.Prelude.{◌≡◌, ◌<◌, ◌≤◌, ◌+◌, ◌*◌, ◌↔◌, ℕ, Option, [], length, map, replicate, slice_get, None};
 ghost use Rattle.std.specs.Prelude.{Some, true, false, is_some, nat_lt, option_map, count_by, All, IfOk, IfErr, OnErr};
 ghost use Rattle.config.specs.CircuitPart.{parts_of};
 ghost use Rattle.config.specs.Topology.{IsTopology, plans_topology, reloaded, serves, topology_of};
@@ -13,6 +13,7 @@ ghost use Rattle.circuit_server.specs.Leases.{Leases, after_tick, found_leases, 
 ghost use Rattle.dispatch.specs.Regions.{AreRegionsMigrated, AreSynced, HasRegions, KeepsOthers};
 ghost use Rattle.dispatch.specs.Restarted.{IsOpened, IsRestartOf};
 ghost use Rattle.dispatch.specs.Received.{received, received_leases, received_saves};
+ghost use Rattle.dispatch.specs.ReceivedAlone.{IsFound, IsReceived};
 ghost use Rattle.circuit_server.specs.Answered.{IsAnswer, fails_at};
 ghost use Rattle.circuit_server.specs.Calls.{IsCalledToSaveAt};
 ghost use Rattle.circuit_server.specs.CircuitServerValue.{OpenCircuitValue, kept_slots};
@@ -32,7 +33,7 @@ pub use batch_answers::{Answer, BatchAnswers};
 use circuit_server::CircuitServer;
 use config::{CircuitPart, Circuits, Config, Plans};
 use lease_disk::{Disk, HALVES_SIZE};
-use requests::addressee;
+use requests::{RelayedMessage, addressee};
 use std::alloc::{AllocError, Global};
 use std::marker::Model;
 use thiserror::Error;
@@ -258,8 +259,8 @@ impl Server {
         }
     }
 
-    /// Each open circuit has the slots of its pools. Nothing is done: this is called for its contract.
-    pub fn has_slots_of_pools(&self)
+    /// Each open circuit has the slots of its pools. Nothing is done: `laws` calls this for its contract.
+    pub(crate) fn has_slots_of_pools(&self)
         ensures { All HasItsSlots (circuits_in self.now) }
     {
         have_slots(&self.servers);
@@ -329,14 +330,34 @@ impl Server {
             (received_saves self.old.topology (delivery proto source now datagram.now) (books_in self.old))
             (D.device disk.old) (D.device disk.new) }
     {
-        out.clear();
         let delivery = Delivery {
             proto,
             source,
             moment: now,
             bytes: datagram,
         };
-        let (circuit, relayed) = match addressee(&self.circuits, &delivery) {
+        let found = addressee(&self.circuits, &delivery);
+        out.clear();
+        self.receive_found(found, &delivery, disk, out)
+    }
+
+    /// Takes a datagram for the circuit that it was found to be of, by what was read of it then, or drops it for the reason
+    /// why it is of none.
+    fn receive_found<D: Disk>(
+        &mut self,
+        found: Result<(Circuit, RelayedMessage<'_>), Discard>,
+        delivery: &Delivery<'_>,
+        disk: &mut D,
+        out: &mut PacketBuf,
+    ) -> Result<(), Discard>
+        requires found { IsFound self.old.topology delivery.now found }
+        requires empty { out.old ≡ [] }
+        requires regions { HasRegions self.old.topology.circuits (D.device disk.old).count }
+        requires ready { D.tells ≡ true → AreReady (D.device disk.old).region self.old }
+        ensures topology { self.new.topology ≡ self.old.topology }
+        ensures received { IsReceived D.tells delivery.now result out.new self.old self.new (D.device disk.old) (D.device disk.new) }
+    {
+        let (circuit, relayed) = match found {
             Ok(found) => found,
             Err(why) => return Err(why),
         };
@@ -344,7 +365,7 @@ impl Server {
         let table = &mut self.deadlines;
         let server = &mut self.servers[circuit.index()];
         server.tick(self.ticked);
-        server.answer(part, &delivery, relayed, disk, out, table, circuit)
+        server.answer(part, delivery, relayed, disk, out, table, circuit)
     }
 
     /// Moves the clock of every open circuit to this moment, where it is a later one, and removes the deadlines that are due then.

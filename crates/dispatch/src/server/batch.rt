@@ -4,15 +4,19 @@ ghost use Rattle.std.specs.Prelude.{true, false, length, take, slice_get, slice_
 ghost use Rattle.types.specs.declared.discard.Discard as discard;
 ghost use Rattle.lease_disk.specs.Device.{has_failed, is_in};
 ghost use Rattle.dispatch.specs.Batch.{IsBatch, IsBatchOfLeases, IsWrittenTogether, batch_fault, batch_saves};
-ghost use Rattle.dispatch.specs.Batch.{deliveries, is_circuit, is_named};
+ghost use Rattle.dispatch.specs.Batch.{circuits_of, deliveries, is_circuit, is_named};
 ghost use Rattle.dispatch.specs.Deadlines.{AllUnchangedOrUntilHeld, KeepsDeadlines};
 ghost use Rattle.timers.specs.Deadlines.{DeadlinesValue};
 ghost use Rattle.requests.specs.Addressee as who;
 ghost use Rattle.dispatch.specs.Parts.{AreAnswered, AreDecided, AreToSettle, IsAnswered, IsPart, IsReceivedBatch};
-ghost use Rattle.dispatch.specs.Parts.{IsSettledSo, is_of, has_named, saved_by, saving_in, savings_of};
+ghost use Rattle.dispatch.specs.Parts.{IsSettledSo, is_of, has_named, saved_by, saving_in, savings_of, with_circuit};
 ghost use Rattle.batch_saves.specs.Batch.{part_at};
 ghost use Rattle.std.specs.List.{cons_option, list_any};
+ghost use Rattle.dispatch.specs.ReceivedAlone.{IsFound};
 ghost use Rattle.dispatch.specs.Regions.{HasRegions};
+ghost use Rattle.types.specs.Delivery.{DeliveryValue};
+ghost use Rattle.config.specs.Topology.{Topology};
+ghost use Rattle.dispatch.specs.Answers.{circuit_in, no_answers};
 ghost use Rattle.dispatch.specs.ServerValue.{AreReady, books_in, leases_in};
 ghost use Rattle.config.specs.CircuitPart as parts;
 ghost use Rattle.requests.specs.RelayedMessage.{IsRelayedMessage};
@@ -46,40 +50,15 @@ struct Batch<'a> {
 }
 
 impl Server {
-    /// Decides on a datagram of the circuit, of which this was read, and makes what it changes but in the circuit's region.
-    fn prepare<'a>(
-        &mut self,
-        circuit: Circuit,
-        delivery: &Delivery<'_>,
-        relayed: RelayedMessage<'a>,
-    ) -> Result<Prepared<'a>, Discard>
-        requires circuit { circuit < length self.old.topology.circuits }
-        requires read { IsRelayedMessage delivery.now.proto delivery.now.bytes relayed }
-        ensures topology { self.new.topology ≡ self.old.topology }
-        ensures others { self.new.states ≡ slice_set self.old.states circuit (server_state self.new.states circuit) }
-        ensures deadlines { KeepsDeadlines (λ c. circuit == c) self.old.deadlines self.new.deadlines }
-        ensures held { AllUnchangedOrUntilHeld self.old.deadlines self.new.deadlines self.new.states }
-        ensures prepared { (part : parts.CircuitPart) → slice_get self.old.topology.circuits circuit ≡ Some part
-            → IfOk result (IsPrepared part delivery.now (server_state self.old.states circuit)
-            (server_state self.new.states circuit)) }
-        ensures dropped { (part : parts.CircuitPart) → slice_get self.old.topology.circuits circuit ≡ Some part
-            → IfErr result (IsDropped part delivery.now (server_state self.old.states circuit)
-            (server_state self.new.states circuit)) }
-    {
-        let part = self.circuits.part(circuit);
-        let table = &mut self.deadlines;
-        let server = &mut self.servers[circuit.index()];
-        server.tick(self.ticked);
-        server.prepare(part, delivery, relayed, table, circuit)
-    }
-
-    /// Decides on the next part of a batch.
+    /// Decides on the next part of a batch, and makes what it changes but in the circuit's region.
     fn prepare_part<'a>(
         &mut self,
         delivery: &Delivery<'a>,
         named: &mut ArrayVec<usize, MAX_BATCH>,
+        answers: &mut BatchAnswers,
     ) -> Part<'a>
         requires room { length named.old.items < 16 }
+        requires place { length answers.old.circuits < 16 }
         ensures topology { self.new.topology ≡ self.old.topology }
         ensures deadlines { KeepsDeadlines (λ c. is_circuit c (who.addressee self.old.topology delivery.now))
             self.old.deadlines self.new.deadlines }
@@ -89,8 +68,11 @@ impl Server {
             → has_named named.new.items c
             ≡ (has_named named.old.items c || is_circuit c (who.addressee self.old.topology delivery.now)) }
         ensures few { length named.new.items ≤ length named.old.items + 1 }
+        ensures circuit { answers.new ≡ with_circuit (who.addressee self.old.topology delivery.now) answers.old }
     {
-        let (circuit, relayed) = match addressee(&self.circuits, delivery) {
+        let found = addressee(&self.circuits, delivery);
+        answers.add_circuit(circuit_of(&found));
+        let (circuit, relayed) = match found {
             Ok(found) => found,
             Err(why) => return Err(why),
         };
@@ -99,43 +81,13 @@ impl Server {
             return Err(Discard::BatchTwice);
         }
         named.push(index);
-        match self.prepare(circuit, delivery, relayed) {
+        let part = self.circuits.part(circuit);
+        let table = &mut self.deadlines;
+        let server = &mut self.servers[index];
+        server.tick(self.ticked);
+        match server.prepare(part, delivery, relayed, table, circuit) {
             Ok(prepared) => Ok((circuit, prepared)),
             Err(why) => Err(why),
-        }
-    }
-
-    /// Decides on each part of a batch, in order.
-    fn prepare_all<'a>(
-        &mut self,
-        parts: &[(Proto, Source, &'a [u8])],
-        now: Moment,
-        batch: &mut Batch<'a>,
-    )
-        requires most { length parts.now ≤ 16 }
-        requires parts { batch.old.parts.items ≡ [] }
-        requires named { batch.old.named.items ≡ [] }
-        requires savings { batch.old.savings ≡ [] }
-        ensures topology { self.new.topology ≡ self.old.topology }
-        ensures deadlines { KeepsDeadlines (is_named self.old.topology (deliveries now parts.now)) self.old.deadlines self.new.deadlines }
-        ensures held { AllUnchangedOrUntilHeld self.old.deadlines self.new.deadlines self.new.states }
-        ensures made { AreDecided self.old.topology (deliveries now parts.now) (length parts.now) batch.new.named.items
-            self.old.states self.new.states batch.new.parts.items }
-        ensures savings { batch.new.savings ≡ savings_of batch.new.parts.items }
-    {
-        'parts: for index in 0..parts.len() {
-            let Some(part) = parts.get(index) else {
-                unreachable!()
-            };
-            let delivery = Delivery {
-                proto: part.0,
-                source: part.1,
-                moment: now,
-                bytes: part.2,
-            };
-            let made = self.prepare_part(&delivery, &mut batch.named);
-            batch.savings.add(saving_of(&made));
-            batch.parts.push(Some(made));
         }
     }
 
@@ -158,7 +110,10 @@ impl Server {
 
         // Over every device: a save fails where the device counts a failure of the circuit's region.
         ensures answers { IsBatch self.old.topology (deliveries now parts.now)
-            (has_failed (D.device disk.old) (D.device disk.new)) (books_in self.old) (books_in self.new) answers.new }
+            (has_failed (D.device disk.old) (D.device disk.new)) (books_in self.old) (books_in self.new) answers.new.answers }
+
+        // The circuit of each part, whatever became of it.
+        ensures circuits { answers.new.circuits ≡ circuits_of self.old.topology (deliveries now parts.now) }
 
         // No deadline is looked at, and those of every circuit that no part is of stay. Each is what it was, or until when
         // its slot is held now.
@@ -184,10 +139,23 @@ impl Server {
             (D.device disk.old) (D.device disk.new) }
     {
         answers.clear();
-        match parts {
-            [part] => self.receive_alone(part, now, disk, answers),
-            _ => self.receive_together(parts, now, disk, answers),
-        }
+        let [(proto, source, bytes)] = parts else {
+            self.receive_together(parts, now, disk, answers);
+            return;
+        };
+        // one alone needs nothing of what a batch keeps between its steps
+        let delivery = Delivery {
+            proto: *proto,
+            source: *source,
+            moment: now,
+            bytes,
+        };
+        let found = addressee(&self.circuits, &delivery);
+        answers.add_circuit(circuit_of(&found));
+        let place = &mut answers.places[answers.count];
+        place.datagram.clear();
+        place.made = self.receive_found(found, &delivery, disk, &mut place.datagram);
+        answers.count += 1;
     }
 
     /// Decides on all parts of a batch, saves them together, and answers them.
@@ -201,14 +169,15 @@ impl Server {
         answers: &mut BatchAnswers,
     )
         requires most { length parts.now ≤ 16 }
-        requires none { answers.old ≡ [] }
+        requires none { answers.old ≡ no_answers }
         requires regions { HasRegions self.old.topology.circuits (D.device disk.old).count }
         requires ready { D.tells ≡ true → AreReady (D.device disk.old).region self.old }
         ensures topology { self.new.topology ≡ self.old.topology }
         ensures deadlines { KeepsDeadlines (is_named self.old.topology (deliveries now parts.now)) self.old.deadlines self.new.deadlines }
         ensures held { AllUnchangedOrUntilHeld self.old.deadlines self.new.deadlines self.new.states }
-        ensures received { IsReceivedBatch D.tells (deliveries now parts.now) answers.new self.old self.new
+        ensures received { IsReceivedBatch D.tells (deliveries now parts.now) answers.new.answers self.old self.new
             (D.device disk.old) (D.device disk.new) }
+        ensures circuits { answers.new.circuits ≡ circuits_of self.old.topology (deliveries now parts.now) }
     {
         let _ = &self.circuits;
         let mut batch = Batch {
@@ -216,7 +185,20 @@ impl Server {
             named: ArrayVec::new(),
             savings: Savings::new(),
         };
-        self.prepare_all(parts, now, &mut batch);
+        'parts: for index in 0..parts.len() {
+            let Some(part) = parts.get(index) else {
+                unreachable!()
+            };
+            let delivery = Delivery {
+                proto: part.0,
+                source: part.1,
+                moment: now,
+                bytes: part.2,
+            };
+            let made = self.prepare_part(&delivery, &mut batch.named, answers);
+            batch.savings.add(saving_of(&made));
+            batch.parts.push(Some(made));
+        }
         batch.savings.save(disk);
         self.answer_all(&batch, answers);
     }
@@ -231,14 +213,15 @@ impl Server {
     )
         requires exists { IfOk part.now (λ one. one.0 < length self.old.topology.circuits) }
         requires place { place + length (cons_option (saving_in (Some part.now)) []) ≤ length savings.now }
-        requires room { length answers.old < 16 }
+        requires room { length answers.old.answers < 16 }
         ensures topology { self.new.topology ≡ self.old.topology }
         ensures size { length self.new.states ≡ length self.old.states }
         ensures keeps { (k : ℕ) → is_of k (Some part.now) ≡ false → server_state self.new.states k ≡ server_state self.old.states k }
         ensures deadlines { KeepsDeadlines (λ c. is_of c (Some part.now)) self.old.deadlines self.new.deadlines }
         ensures held { (before : DeadlinesValue) → AllUnchangedOrUntilHeld before self.old.deadlines self.old.states
             → AllUnchangedOrUntilHeld before self.new.deadlines self.new.states }
-        ensures answered { (answer : Result (List ℕ) discard.Discard) × (answers.new ≡ answers.old ++ answer ∷ [])
+        ensures answered { (answer : Result (List ℕ) discard.Discard)
+            × (answers.new ≡ record answers.old { answers = answers.old.answers ++ answer ∷ [] })
             × IsAnswered self.old.topology (part_at savings.now place) self.old.states self.new.states answer part.now }
     {
         match part {
@@ -255,7 +238,7 @@ impl Server {
         requires parts { AreToSettle self.old.topology batch.now.parts.items }
         requires most { length batch.now.parts.items ≤ 16 }
         requires savings { length batch.now.savings ≡ length (savings_of batch.now.parts.items) }
-        requires none { answers.old ≡ [] }
+        requires none { answers.old.answers ≡ [] }
         ensures topology { self.new.topology ≡ self.old.topology }
         ensures deadlines { KeepsDeadlines (λ c.
             list_any (is_of c) (take (length batch.now.parts.items) batch.now.parts.items)) self.old.deadlines
@@ -263,7 +246,8 @@ impl Server {
         ensures held { (before : DeadlinesValue) → AllUnchangedOrUntilHeld before self.old.deadlines self.old.states
             → AllUnchangedOrUntilHeld before self.new.deadlines self.new.states }
         ensures answered { AreAnswered self.old.topology batch.now.parts.items batch.now.savings
-            (length batch.now.parts.items) self.old.states self.new.states answers.new }
+            (length batch.now.parts.items) self.old.states self.new.states answers.new.answers }
+        ensures circuits { answers.new.circuits ≡ answers.old.circuits }
     {
         let mut place = 0;
         'parts: for part in batch.parts.iter() {
@@ -271,6 +255,16 @@ impl Server {
             self.answer_part(part, &batch.savings, place, answers);
             place = place_after(place, part);
         }
+    }
+}
+
+/// The circuit that was found, if there was one.
+fn circuit_of(found: &Result<(Circuit, RelayedMessage<'_>), Discard>) -> Option<Circuit>
+    ensures { (topology : Topology) (d : DeliveryValue) → IsFound topology d found.now → result ≡ circuit_in (who.addressee topology d) }
+{
+    match found {
+        Ok((circuit, _)) => Some(*circuit),
+        Err(_) => None,
     }
 }
 

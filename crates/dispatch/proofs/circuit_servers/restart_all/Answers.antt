@@ -6,7 +6,7 @@ use Rattle.std.proofs.lemmas.List.Elements.{All-more}
 use Rattle.config.specs.CircuitPart.{CircuitPart, IsPart}
 use Rattle.lease_disk.specs.Region.{IsClean, Region}
 use Rattle.timers.specs.Deadlines.{deadline}
-use Rattle.circuit_server.specs.Deadlines.{OthersUnchanged, held_in}
+use Rattle.circuit_server.specs.Deadlines.{OtherEntriesUnchanged, held_in}
 use Rattle.circuit_server.specs.Leases.{found_leases}
 use Rattle.circuit_server.specs.CircuitServerValue.{CircuitServerValue, HasItsPools}
 use Rattle.dispatch.specs.ServerValue.{with_states}
@@ -72,7 +72,7 @@ circuits-preserved g c =
     let within : i < length xs = omega (arith, c.circuits-test.true, size_with parts states) in
     let inside : i < length states = omega (arith, c.circuits-test.true, loop.size, c.requires.size) in
     let written = set_with parts states i part c.restart.new.self there inside in
-    let entries : OthersUnchanged (32 * i) c.circuits.table c.set_deadlines.new.table = subst (λ n. OthersUnchanged (32 * n) c.circuits.table c.set_deadlines.new.table) c.at.ensures c.set_deadlines.ensures.entries.others in
+    let entries : OtherEntriesUnchanged (32 * i) c.circuits.table c.set_deadlines.new.table = subst (λ n. OtherEntriesUnchanged (32 * n) c.circuits.table c.set_deadlines.new.table) c.at.ensures c.set_deadlines.ensures.entries.others in
     record {
       up = λ tells. one_more_up g.D.Disk.tells tells parts c.requires.can.differ i part there states inside (g.D.Disk.device c.args.disk.now) (g.D.Disk.device c.circuits.disk) (g.D.Disk.device c.restart.new.disk) (loop.up tells)
           c.restart.ensures.frame c.restart.new.self (c.restart.ensures.restarted.leases tells) (c.restart.ensures.restarted.ready tells) (c.restart.ensures.restarted.region tells);

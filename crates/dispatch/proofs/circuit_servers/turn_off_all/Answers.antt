@@ -2,7 +2,7 @@ use Rattle.std.proofs.Common.{◌≡◌, ◌<◌, ◌≤◌, ◌+◌, ◌*◌, L
 use Rattle.std.specs.Prelude.{Option}
 use Rattle.std.proofs.lemmas.List.{length-map}
 use Rattle.timers.specs.Deadlines.{DeadlinesValue, deadline}
-use Rattle.circuit_server.specs.Deadlines.{HasDeadlines, OthersUnchanged, held_in}
+use Rattle.circuit_server.specs.Deadlines.{HasDeadlines, OtherEntriesUnchanged, held_in}
 use Rattle.circuit_server.specs.CircuitServerValue.{OpenCircuitValue}
 use Rattle.circuit_server.specs.Ticked.{IsLater, state_at, server_state}
 use Rattle.circuit_server.specs.Unoffered.{state_unoffered}
@@ -46,7 +46,7 @@ circuits-preserved c =
             one_goes off n old mid before c.circuits.table after (tested ∙ w.if-turns_off.true) within loop.turned
             (λ s below. ap (λ k. deadline after (32 * k + s)) (sym at) ∙ w.turn_off.ensures.own s below ∙ ap (λ state. held_in state s) (sym its))
             (subst (λ k. HasDeadlines after (32 * k) (state_unoffered (server_state mid n))) at (subst (HasDeadlines after (32 * c.at-circuit.result)) (sym its) w.turn_off.ensures.entries.deadlines))
-            (subst (λ k. OthersUnchanged (32 * k) c.circuits.table after) at w.turn_off.ensures.entries.others) in
+            (subst (λ k. OtherEntriesUnchanged (32 * k) c.circuits.table after) at w.turn_off.ensures.entries.others) in
             subst (λ (table : DeadlinesValue). AreTurned (so_far off (n + 1)) old (shown c.if-turns_off.servers) before table) (sym w.table-is)
             (subst (λ (xs : List (Option OpenCircuitValue)). AreTurned (so_far off (n + 1)) old xs before after) (sym (ap shown w.servers-is ∙ kept.others ∙ ap (set mid n) (sym its))) turned)
         | else-turns_off w ↦

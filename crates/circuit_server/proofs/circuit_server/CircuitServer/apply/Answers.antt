@@ -9,7 +9,7 @@ use Rattle.circuit_server.proofs.circuit_server.CircuitServer.apply.Goals as goa
 
 pub returns-clause-entries : goal.returns-clause-entries
 returns-clause-entries g c =
-    let d = g.C.Decide.decision c.args.decision.now in
+    let d = g.C.Decision.decision c.args.decision.now in
     let table = c.args.table.now in
     let circuit = c.args.circuit in
     let was : c.args.self.now ≡ Some c.in-Some.state = sym c.self.view_is ∙ c.in-Some.is in
@@ -20,5 +20,5 @@ returns-clause-entries g c =
 
 pub returns-clause-applied : goal.returns-clause-applied
 returns-clause-applied g c =
-    let d = g.C.Decide.decision c.args.decision.now in
+    let d = g.C.Decision.decision c.args.decision.now in
     ap Some c.commit.ensures ∙ ap (option_map (with_decision d)) (sym (sym c.self.view_is ∙ c.in-Some.is))

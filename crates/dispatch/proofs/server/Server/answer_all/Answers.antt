@@ -6,6 +6,7 @@ use Rattle.types.specs.declared.discard.Discard.{Discard}
 use Rattle.batch_saves.specs.Batch.{part_at}
 use Rattle.config.specs.Topology.{Topology}
 use Rattle.circuit_server.specs.declared.prepared.Prepared.{Prepared}
+use Rattle.dispatch.specs.Answers.{AnswersValue}
 use Rattle.dispatch.specs.Parts.{AreAnswered, AreToSettle, IsAnswered, place_of, saving_in}
 use Rattle.dispatch.proofs.AnsweredLemmas.{answered_more, kept_answered}
 use Rattle.dispatch.proofs.SavingLemmas.{filter_few, place_more, place_within}
@@ -81,9 +82,10 @@ parts-preserved c =
       place = c.place_after-place.ensures ∙ ap (λ n. n + length (cons_option (saving_in (Some c.in-Some.part)) [])) was.place ∙ sym (place_more parts i (Some c.in-Some.part) there);
       deadlines = kept_answered parts i (Some c.in-Some.part) c.args.self.now.deadlines c.parts.self.deadlines c.answer_part.new.self.deadlines there was.deadlines next.deadlines;
       held = λ past so. next.held past (was.held past so);
+      circuits = ap (λ (a : AnswersValue). a.circuits) next.answered.1 ∙ was.circuits;
       answered =
-          subst (λ (given : List (Result (List ℕ) Discard)). AreAnswered c.args.self.now.topology parts c.args.batch.now.savings (i + 1) c.args.self.now.states c.answer_part.new.self.states given) (sym next.answered.1)
-          (answered_more c.args.self.now.topology parts c.args.batch.now.savings i c.args.self.now.states c.parts.self.states c.answer_part.new.self.states c.parts.answers c.in-Some.part there was.settles before next.size next.keeps next.answered.0
+          subst (λ (given : List (Result (List ℕ) Discard)). AreAnswered c.args.self.now.topology parts c.args.batch.now.savings (i + 1) c.args.self.now.states c.answer_part.new.self.states given) (sym (ap (λ (a : AnswersValue). a.answers) next.answered.1))
+          (answered_more c.args.self.now.topology parts c.args.batch.now.savings i c.args.self.now.states c.parts.self.states c.answer_part.new.self.states c.parts.answers.answers c.in-Some.part there was.settles before next.size next.keeps next.answered.0
           (subst (λ (t : Topology). IsAnswered t (part_at c.args.batch.now.savings (place_of parts i)) c.parts.self.states c.answer_part.new.self.states next.answered.0 c.in-Some.part) was.topology
           (subst (λ n. IsAnswered c.parts.self.topology (part_at c.args.batch.now.savings n) c.parts.self.states c.answer_part.new.self.states next.answered.0 c.in-Some.part) was.place next.answered.2)));
     }

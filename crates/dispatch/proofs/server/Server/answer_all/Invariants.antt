@@ -17,5 +17,6 @@ invariant-parts l = record {
   place : l.place ≡ place_of l.batch.parts.items l.part-index;
   deadlines : KeepsDeadlines (λ k. list_any (is_of k) (take l.part-index l.batch.parts.items)) l.fn.self.deadlines l.self.deadlines;
   held : (before : DeadlinesValue) → AllUnchangedOrUntilHeld before l.fn.self.deadlines l.fn.self.states → AllUnchangedOrUntilHeld before l.self.deadlines l.self.states;
-  answered : AreAnswered l.fn.self.topology l.batch.parts.items l.batch.savings l.part-index l.fn.self.states l.self.states l.answers;
+  answered : AreAnswered l.fn.self.topology l.batch.parts.items l.batch.savings l.part-index l.fn.self.states l.self.states l.answers.answers;
+  circuits : l.answers.circuits ≡ l.fn.answers.circuits;
 }

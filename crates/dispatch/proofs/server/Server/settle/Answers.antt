@@ -1,17 +1,16 @@
-use Rattle.std.proofs.Common.{◌≡◌, ℕ, ◌∷◌, ◌++◌, ◌==◌, List, [], map, set, length, refl, sym, ap, subst, ◌∙◌, rules}
-use Rattle.std.specs.Prelude.{Option, Result}
-use Rattle.types.specs.declared.discard.Discard.{Discard}
+use Rattle.std.proofs.Common.{◌≡◌, ◌==◌, List, map, set, length, refl, sym, ap, subst, ◌∙◌, rules}
+use Rattle.std.specs.Prelude.{Option}
 use Rattle.circuit_server.specs.CircuitServerValue.{OpenCircuitValue}
 use Rattle.circuit_server.specs.Prepared.{IsSettled}
 use Rattle.circuit_server.specs.Ticked.{state_at, server_state}
-use Rattle.dispatch.specs.Answers.{answer_by}
+use Rattle.dispatch.specs.Answers.{AnswersValue, answer_by}
 use Rattle.dispatch.specs.Deadlines.{AllUnchangedOrUntilHeld, KeepsDeadlines}
 use Rattle.dispatch.specs.Parts.{IsSettledSo}
 use Rattle.dispatch.specs.ServerValue.{ServerValue}
 use Rattle.dispatch.proofs.HeldDeadlines.{kept_beside, settled_all}
 use Rattle.dispatch.proofs.OneServer.{IsOne, after_call, its_pools, still_held, still_sound}
 use Rattle.dispatch.proofs.PartLemmas.{not_same}
-use Rattle.dispatch.proofs.PlaceLemmas.{added, room_for}
+use Rattle.dispatch.proofs.PlaceLemmas.{added_to, room_for}
 use Rattle.dispatch.proofs.server.Server.settle.Goals as goal
 
 pub settle-place-requires-clause-pools : goal.settle-place-requires-clause-pools
@@ -65,9 +64,9 @@ returns-clause-answered c =
     let made = c.settle-place in
     let answer = answer_by made.result made.new.out in
     let size : length c.answers.inside.places ≡ 16 = search rules in
-    let within = room_for c.answers.inside.count c.answers.inside.places c.args.answers.now c.answers.view_is c.answers.invariant size c.requires.room in (
+    let within = room_for c.answers.inside.count c.answers.inside.places c.args.answers.now.answers (ap (λ (a : AnswersValue). a.answers) c.answers.view_is) c.answers.invariant size c.requires.room in (
       answer,
-      added c.answers.inside.count c.answers.inside.places _ answer within refl ∙ ap (λ (xs : List (Result (List ℕ) Discard)). xs ++ answer ∷ []) c.answers.view_is,
+      added_to c.answers.inside.circuits.items c.answers.inside.count c.answers.inside.places _ answer c.args.answers.now c.answers.view_is within refl,
       subst (λ (s : ServerValue). IsSettledSo s.topology c.args.prepared.now c.args.saved c.args.circuit s.states (after c) answer) c.self.view_is
           (record {
             part = c.part-part.result.now;

@@ -2,7 +2,7 @@ use Rattle.std.proofs.Common.{◌≡◌, inl, ◌<◌, ◌==◌, ℕ, false, Lis
 use Rattle.std.specs.Prelude.{Option, Some, Result, Ok, slice_get, option_map, All}
 use Rattle.std.proofs.lemmas.List.{map-set}
 use Rattle.std.proofs.lemmas.Option.{slice_get-map}
-use Rattle.types.specs.Delivery.{DeliveryValue, delivery}
+use Rattle.types.specs.Delivery.{DeliveryValue}
 use Rattle.types.specs.declared.discard.Discard.{Discard}
 use Rattle.config.specs.CircuitPart.{CircuitPart}
 use Rattle.config.specs.Topology.{Topology}
@@ -11,6 +11,7 @@ use Rattle.requests.specs.Addressee.{addressee}
 use Rattle.circuit_server.specs.Leases.{formats_of, restarts_of}
 use Rattle.dispatch.specs.Batch.{is_circuit}
 use Rattle.dispatch.specs.Deadlines.{AllUnchangedOrUntilHeld, KeepsDeadlines}
+use Rattle.dispatch.specs.ReceivedAlone.{IsFound}
 use Rattle.dispatch.specs.Received.{Received, addressee_answered, addressee_leases, addressee_saves, received, received_leases, received_saves}
 use Rattle.circuit_server.specs.Answered.{IsAnswer, fails_at}
 use Rattle.circuit_server.specs.Calls.{IsCalledToSaveAt}
@@ -27,57 +28,21 @@ use Rattle.dispatch.proofs.ReceivedLemmas.{received_at, leases_at, saves_at}
 use Rattle.dispatch.proofs.ServerLemmas.{all_moved, one_moved}
 use Rattle.dispatch.proofs.TickLemmas.{own_state}
 use Rattle.dispatch.proofs.WithStates.{at_index, parts_with, server, set_with, there_with}
-use Rattle.dispatch.proofs.server.Server.receive.Given as given
-use Rattle.dispatch.proofs.server.Server.receive.Goals as goal
+use Rattle.dispatch.proofs.server.Server.receive_found.Given as given
+use Rattle.dispatch.proofs.server.Server.receive_found.Goals as goal
 
 -- ---- a datagram of no circuit
 
 abbrev refused : (g : given.Over) (c : goal.In-Err g) → DeliveryValue
-refused g c = delivery c.args.proto c.args.source c.args.now c.args.datagram.now
+refused g c = c.args.delivery.now
 
 none_of : (g : given.Over) (c : goal.In-Err g) → addressee c.args.self.now.topology (refused g c) ≡ Err c.in-Err.why
-none_of g c = ap (λ (s : ServerValue). addressee s.topology (refused g c)) (sym c.self.view_is) ∙ c.in-Err.ensures.err
-
-pub returns-in-Err-clause-answer : goal.returns-in-Err-clause-answer
-returns-in-Err-clause-answer g c =
-    let s = c.args.self.now in
-    let device = g.D.Disk.device c.args.disk.now in
-    subst (λ r. IsAnswer (addressee_answered s.topology (refused g c) (has_failed device device) (books_in s) r).answer (Err c.in-Err.why) c.clear.new.self)
-    (sym (none_of g c)) (refl, c.clear.ensures)
-
-pub returns-in-Err-clause-books : goal.returns-in-Err-clause-books
-returns-in-Err-clause-books g c =
-    let s = c.args.self.now in
-    let device = g.D.Disk.device c.args.disk.now in
-    ap (λ r. (addressee_answered s.topology (refused g c) (has_failed device device) (books_in s) r).books) (sym (none_of g c))
-
-pub returns-in-Err-clause-fails : goal.returns-in-Err-clause-fails
-returns-in-Err-clause-fails g c tells = λ q.
-    let s = c.args.self.now in
-    not_more _ ∙ ap (λ r. fails_at (g.D.Disk.device c.args.disk.now).failing_call (addressee_saves s.topology (refused g c) (books_in s) r) q) (sym (none_of g c))
-
-pub returns-in-Err-clause-leases : goal.returns-in-Err-clause-leases
-returns-in-Err-clause-leases g c tells =
-    let s = c.args.self.now in
-    let device = g.D.Disk.device c.args.disk.now in
-    ap (addressee_leases s.topology (refused g c) device.failing_call (leases_in device.region s)) (sym (none_of g c))
-
-pub returns-in-Err-clause-calls : goal.returns-in-Err-clause-calls
-returns-in-Err-clause-calls g c =
-    let s = c.args.self.now in
-    let device = g.D.Disk.device c.args.disk.now in
-    subst (λ r. IsCalledToSaveAt (addressee_saves s.topology (refused g c) (books_in s) r) device device) (sym (none_of g c)) (called_none device device refl)
-
-pub returns-in-Err-clause-deadlines : goal.returns-in-Err-clause-deadlines
-returns-in-Err-clause-deadlines g c = kept_all _ c.args.self.now.deadlines
-
-pub returns-in-Err-clause-unchanged : goal.returns-in-Err-clause-unchanged
-returns-in-Err-clause-unchanged g c = because_err _ _ _ (none_of g c) (refl, refl, refl)
+none_of g c = subst (IsFound c.args.self.now.topology (refused g c)) c.in-Err.is c.requires.found
 
 -- ---- the server of the datagram's circuit, before
 
 abbrev asks : (g : given.Over) (c : goal.After-self-1 g) → DeliveryValue
-asks g c = delivery c.args.proto c.args.source c.args.now c.args.datagram.now
+asks g c = c.args.delivery.now
 
 abbrev topology : (g : given.Over) (c : goal.After-self-1 g) → Topology
 topology g c = c.self.inside.circuits
@@ -129,11 +94,11 @@ written g c =
 its : {B : Type 0} (f : CircuitServerValue → B) (g : given.Over) (c : goal.After-self-1 g) → slice_get (map f (before g c)) (place g c) ≡ Some (f (asked g c))
 its f g c = slice_get-map f (before g c) (place g c) ∙ ap (option_map f) (its_server g c)
 
-found : (g : given.Over) (c : goal.After-self-1 g) → addressee (topology g c) (asks g c) ≡ Ok (place g c)
-found g c = c.in-Ok.ensures.circuit
-
 found_in : (g : given.Over) (c : goal.After-self-1 g) → addressee c.args.self.now.topology (asks g c) ≡ Ok (place g c)
-found_in g c = subst (λ (s : ServerValue). addressee s.topology (asks g c) ≡ Ok (place g c)) c.self.view_is (found g c)
+found_in g c = (subst (IsFound c.args.self.now.topology (asks g c)) c.in-Ok.is c.requires.found).0
+
+found : (g : given.Over) (c : goal.After-self-1 g) → addressee (topology g c) (asks g c) ≡ Ok (place g c)
+found g c = subst (λ (s : ServerValue). addressee s.topology (asks g c) ≡ Ok (place g c)) (sym c.self.view_is) (found_in g c)
 
 -- another circuit's region is another one
 elsewhere : (g : given.Over) (c : goal.After-self-1 g) (k : ℕ) (x : CircuitServerValue) → slice_get (before g c) k ≡ Some x → (k ≡ (place g c) → ⊥)
@@ -178,110 +143,123 @@ invariant_of-self g c = (
 pub returns-clause-topology : goal.returns-clause-topology
 returns-clause-topology g c = ap (λ (s : ServerValue). s.topology) c.self.view_is
 
-pub returns-clause-answer : goal.returns-clause-answer
-returns-clause-answer g c =
-    let fails = has_failed (g.D.Disk.device c.args.disk.now) (g.D.Disk.device c.answer.new.disk) in
-    let x = asked g c in
-    let P : ServerValue → Type 0 = λ s. IsAnswer (received s.topology (asks g c) fails (books_in s)).answer c.answer.result c.answer.new.out in
-    let Q : Received → Type 0 = λ r. IsAnswer r.answer c.answer.result c.answer.new.out in
-    subst P c.self.view_is
-    (subst Q (sym (received_at (topology g c) (asks g c) (place g c) x.part (found g c) (there_in g c) fails (map server_book (before g c)) (server_book x) (its server_book g c)))
-    (done g c).answer)
-
-pub returns-clause-unchanged : goal.returns-clause-unchanged
-returns-clause-unchanged g c = because_ok _ _ _ (found_in g c)
-
-pub returns-clause-books : goal.returns-clause-books
-returns-clause-books g c =
-    let fails = has_failed (g.D.Disk.device c.args.disk.now) (g.D.Disk.device c.answer.new.disk) in
-    let x = asked g c in
-    let items = before g c in
-    let k = place g c in
-    let new = server x.part c.answer.new.self in
-    let P : ServerValue → Type 0 = λ s. map server_book (set items k new) ≡ (received s.topology (asks g c) fails (books_in s)).books in
-    ap (map server_book) (written g c)
-    ∙ subst P c.self.view_is
-    (map-set server_book items k new
-    ∙ ap (set (map server_book items) k) (done g c).book
-    ∙ ap (λ r. r.books) (sym (received_at (topology g c) (asks g c) k x.part (found g c) (there_in g c) fails (map server_book items) (server_book x) (its server_book g c))))
-
-pub returns-clause-fails : goal.returns-clause-fails
-returns-clause-fails g c tells = λ q.
-    let fails = has_failed (g.D.Disk.device c.args.disk.now) (g.D.Disk.device c.answer.new.disk) q in
-    let faults = (g.D.Disk.device c.args.disk.now).failing_call in
-    let x = asked g c in
-    let items = before g c in
-    let P : ServerValue → Type 0 = λ s. fails ≡ fails_at faults (received_saves s.topology (asks g c) (books_in s)) q in
-    subst P c.self.view_is
-    ((done g c).fails tells q
-    ∙ sym (ap (λ (saved : Option ℕ). fails_at faults saved q) (saves_at (topology g c) (asks g c) (place g c) x.part (found g c) (there_in g c) (map server_book items) (server_book x) (its server_book g c))))
-
-pub returns-clause-frame : goal.returns-clause-frame
-returns-clause-frame g c =
-    let old = g.D.Disk.device c.args.disk.now in
-    let new = g.D.Disk.device c.answer.new.disk in
-    let x = asked g c in
-    let items = before g c in
-    let P : ServerValue → Type 0 = λ s. WritesAt g.D.Disk.tells (received_saves s.topology (asks g c) (books_in s)) old new in
-    let Q : Option ℕ → Type 0 = λ region. WritesAt g.D.Disk.tells region old new in
-    subst P c.self.view_is
-    (subst Q (sym (saves_at (topology g c) (asks g c) (place g c) x.part (found g c) (there_in g c) (map server_book items) (server_book x) (its server_book g c)))
-    (done g c).writes)
-
-pub returns-clause-calls : goal.returns-clause-calls
-returns-clause-calls g c =
-    let old = g.D.Disk.device c.args.disk.now in
-    let new = g.D.Disk.device c.answer.new.disk in
-    let x = asked g c in
-    let items = before g c in
-    let P : ServerValue → Type 0 = λ s. IsCalledToSaveAt (received_saves s.topology (asks g c) (books_in s)) old new in
-    let Q : Option ℕ → Type 0 = λ region. IsCalledToSaveAt region old new in
-    subst P c.self.view_is
-    (subst Q (sym (saves_at (topology g c) (asks g c) (place g c) x.part (found g c) (there_in g c) (map server_book items) (server_book x) (its server_book g c)))
-    (done g c).calls)
-
-pub returns-clause-leases : goal.returns-clause-leases
-returns-clause-leases g c tells =
-    let regions = (g.D.Disk.device c.args.disk.now).region in
-    let later = (g.D.Disk.device c.answer.new.disk).region in
-    let faults = (g.D.Disk.device c.args.disk.now).failing_call in
-    let x = asked g c in
-    let items = before g c in
-    let k = place g c in
-    let new = server x.part c.answer.new.self in
-    let P : ServerValue → Type 0 = λ s. map (leases_of later) (set items k new) ≡ received_leases s.topology (asks g c) faults (leases_in regions s) in
-    ap (map (leases_of later)) (written g c)
-    ∙ subst P c.self.view_is
-    (one_moved (leases_of regions) (leases_of later) items k new
-    (λ n y there apart. λ i. let r = (done g c).frame.region tells y.part.region (elsewhere g c n y there apart) i in record { book = server_book y; restarts = restarts_of y.part r; is_new = formats_of r })
-    ∙ ap (set (map (leases_of regions) items) k) ((done g c).leases tells)
-    ∙ sym (leases_at (topology g c) (asks g c) k x.part (found g c) (there_in g c) faults (map (leases_of regions) items) (leases_of regions x) (its (leases_of regions) g c)))
-
-pub returns-clause-ready : goal.returns-clause-ready
-returns-clause-ready g c tells =
-    let regions = (g.D.Disk.device c.args.disk.now).region in
-    let later = (g.D.Disk.device c.answer.new.disk).region in
-    let was : All (IsReady regions) (before g c) = subst (λ (s : ServerValue). All (IsReady regions) (circuits_in s)) (sym c.self.view_is) (c.requires.ready tells) in
-    subst (All (IsReady later)) (sym (written g c))
-    (all_moved (IsReady regions) (IsReady later) (before g c) (place g c) (server c.part-part.result.now c.answer.new.self) ((done g c).ready tells) was
-    (λ n y there apart. subst (λ r. IsReadyFor r y.state) (sym ((done g c).frame.region tells y.part.region (elsewhere g c n y there apart)))))
-
 not_named : (c k : ℕ) (found : Result ℕ Discard) → found ≡ Ok c → is_circuit k found ≡ false → k ≡ c → ⊥
 not_named c k found is none same = not_both (ap (λ n. c == n) same ∙ same_number c) (sym (ap (is_circuit k) is) ∙ none)
 
-pub returns-clause-deadlines : goal.returns-clause-deadlines
-returns-clause-deadlines g c =
-    let k = place g c in
-    let P : ServerValue → Type 0 = λ s. KeepsDeadlines (λ n. is_circuit n (addressee s.topology (asks g c))) s.deadlines c.answer.new.table in
-    subst P c.self.view_is
-    (kept_beside k (λ n. is_circuit n (addressee (topology g c) (asks g c))) c.self.inside.deadlines c.answer.new.table
-    (λ n none. not_named k n (addressee (topology g c) (asks g c)) (found g c) none) c.answer.ensures.entries.others)
+pub returns-in-Err-clause-received : goal.returns-in-Err-clause-received
+returns-in-Err-clause-received g c = record {
+  answer =
+      let s = c.args.self.now in
+      let device = g.D.Disk.device c.args.disk.now in
+      subst (λ r. IsAnswer (addressee_answered s.topology (refused g c) (has_failed device device) (books_in s) r).answer (Err c.in-Err.why) c.args.out.now)
+      (sym (none_of g c)) (refl, c.requires.empty);
+  books =
+      let s = c.args.self.now in
+      let device = g.D.Disk.device c.args.disk.now in
+      ap (λ r. (addressee_answered s.topology (refused g c) (has_failed device device) (books_in s) r).books) (sym (none_of g c));
+  unchanged = because_err _ _ _ (none_of g c) (refl, refl, refl);
+  deadlines = kept_all _ c.args.self.now.deadlines;
+  held = λ k state there s below. inl refl;
+  fails = λ tells q.
+      let s = c.args.self.now in
+      not_more _ ∙ ap (λ r. fails_at (g.D.Disk.device c.args.disk.now).failing_call (addressee_saves s.topology (refused g c) (books_in s) r) q) (sym (none_of g c));
+  leases = λ tells.
+      let s = c.args.self.now in
+      let device = g.D.Disk.device c.args.disk.now in
+      ap (addressee_leases s.topology (refused g c) device.failing_call (leases_in device.region s)) (sym (none_of g c));
+  ready = c.requires.ready;
+  frame =
+      let s = c.args.self.now in
+      let device = g.D.Disk.device c.args.disk.now in
+      subst (λ r. WritesAt g.D.Disk.tells (addressee_saves s.topology (refused g c) (books_in s) r) device device) (sym (none_of g c)) refl;
+  calls =
+      let s = c.args.self.now in
+      let device = g.D.Disk.device c.args.disk.now in
+      subst (λ r. IsCalledToSaveAt (addressee_saves s.topology (refused g c) (books_in s) r) device device) (sym (none_of g c)) (called_none device device refl);
+}
 
-pub returns-in-Err-clause-held : goal.returns-in-Err-clause-held
-returns-in-Err-clause-held g c = λ k state there s below. inl refl
-
-pub returns-clause-held : goal.returns-clause-held
-returns-clause-held g c =
-    let k = place g c in
-    let P : ServerValue → Type 0 = λ v. AllUnchangedOrUntilHeld v.deadlines c.answer.new.table (after g c) in
-    subst P c.self.view_is (held_all k (after g c) c.answer.new.self c.self.inside.deadlines c.answer.new.table (sym (its_one g c).after) c.answer.ensures.entries.others c.answer.ensures.entries.own)
+pub returns-clause-received : goal.returns-clause-received
+returns-clause-received g c = record {
+  answer =
+      let fails = has_failed (g.D.Disk.device c.args.disk.now) (g.D.Disk.device c.answer.new.disk) in
+      let x = asked g c in
+      let P : ServerValue → Type 0 = λ s. IsAnswer (received s.topology (asks g c) fails (books_in s)).answer c.answer.result c.answer.new.out in
+      let Q : Received → Type 0 = λ r. IsAnswer r.answer c.answer.result c.answer.new.out in
+      subst P c.self.view_is
+      (subst Q (sym (received_at (topology g c) (asks g c) (place g c) x.part (found g c) (there_in g c) fails (map server_book (before g c)) (server_book x) (its server_book g c)))
+      (done g c).answer);
+  books =
+      let fails = has_failed (g.D.Disk.device c.args.disk.now) (g.D.Disk.device c.answer.new.disk) in
+      let x = asked g c in
+      let items = before g c in
+      let k = place g c in
+      let new = server x.part c.answer.new.self in
+      let P : ServerValue → Type 0 = λ s. map server_book (set items k new) ≡ (received s.topology (asks g c) fails (books_in s)).books in
+      ap (map server_book) (written g c)
+      ∙ subst P c.self.view_is
+      (map-set server_book items k new
+      ∙ ap (set (map server_book items) k) (done g c).book
+      ∙ ap (λ r. r.books) (sym (received_at (topology g c) (asks g c) k x.part (found g c) (there_in g c) fails (map server_book items) (server_book x) (its server_book g c))));
+  unchanged = because_ok _ _ _ (found_in g c);
+  deadlines =
+      let k = place g c in
+      let P : ServerValue → Type 0 = λ s. KeepsDeadlines (λ n. is_circuit n (addressee s.topology (asks g c))) s.deadlines c.answer.new.table in
+      subst P c.self.view_is
+      (kept_beside k (λ n. is_circuit n (addressee (topology g c) (asks g c))) c.self.inside.deadlines c.answer.new.table
+      (λ n none. not_named k n (addressee (topology g c) (asks g c)) (found g c) none) c.answer.ensures.entries.others);
+  held =
+      let k = place g c in
+      let P : ServerValue → Type 0 = λ v. AllUnchangedOrUntilHeld v.deadlines c.answer.new.table (after g c) in
+      subst P c.self.view_is (held_all k (after g c) c.answer.new.self c.self.inside.deadlines c.answer.new.table (sym (its_one g c).after) c.answer.ensures.entries.others c.answer.ensures.entries.own);
+  fails = λ tells q.
+      let fails = has_failed (g.D.Disk.device c.args.disk.now) (g.D.Disk.device c.answer.new.disk) q in
+      let faults = (g.D.Disk.device c.args.disk.now).failing_call in
+      let x = asked g c in
+      let items = before g c in
+      let P : ServerValue → Type 0 = λ s. fails ≡ fails_at faults (received_saves s.topology (asks g c) (books_in s)) q in
+      subst P c.self.view_is
+      ((done g c).fails tells q
+      ∙ sym (ap (λ (saved : Option ℕ). fails_at faults saved q) (saves_at (topology g c) (asks g c) (place g c) x.part (found g c) (there_in g c) (map server_book items) (server_book x) (its server_book g c))));
+  leases = λ tells.
+      let regions = (g.D.Disk.device c.args.disk.now).region in
+      let later = (g.D.Disk.device c.answer.new.disk).region in
+      let faults = (g.D.Disk.device c.args.disk.now).failing_call in
+      let x = asked g c in
+      let items = before g c in
+      let k = place g c in
+      let new = server x.part c.answer.new.self in
+      let P : ServerValue → Type 0 = λ s. map (leases_of later) (set items k new) ≡ received_leases s.topology (asks g c) faults (leases_in regions s) in
+      ap (map (leases_of later)) (written g c)
+      ∙ subst P c.self.view_is
+      (one_moved (leases_of regions) (leases_of later) items k new
+      (λ n y there apart. λ i. let r = (done g c).frame.region tells y.part.region (elsewhere g c n y there apart) i in record { book = server_book y; restarts = restarts_of y.part r; is_new = formats_of r })
+      ∙ ap (set (map (leases_of regions) items) k) ((done g c).leases tells)
+      ∙ sym (leases_at (topology g c) (asks g c) k x.part (found g c) (there_in g c) faults (map (leases_of regions) items) (leases_of regions x) (its (leases_of regions) g c)));
+  ready = λ tells.
+      let regions = (g.D.Disk.device c.args.disk.now).region in
+      let later = (g.D.Disk.device c.answer.new.disk).region in
+      let was : All (IsReady regions) (before g c) = subst (λ (s : ServerValue). All (IsReady regions) (circuits_in s)) (sym c.self.view_is) (c.requires.ready tells) in
+      subst (All (IsReady later)) (sym (written g c))
+      (all_moved (IsReady regions) (IsReady later) (before g c) (place g c) (server c.part-part.result.now c.answer.new.self) ((done g c).ready tells) was
+      (λ n y there apart. subst (λ r. IsReadyFor r y.state) (sym ((done g c).frame.region tells y.part.region (elsewhere g c n y there apart)))));
+  frame =
+      let old = g.D.Disk.device c.args.disk.now in
+      let new = g.D.Disk.device c.answer.new.disk in
+      let x = asked g c in
+      let items = before g c in
+      let P : ServerValue → Type 0 = λ s. WritesAt g.D.Disk.tells (received_saves s.topology (asks g c) (books_in s)) old new in
+      let Q : Option ℕ → Type 0 = λ region. WritesAt g.D.Disk.tells region old new in
+      subst P c.self.view_is
+      (subst Q (sym (saves_at (topology g c) (asks g c) (place g c) x.part (found g c) (there_in g c) (map server_book items) (server_book x) (its server_book g c)))
+      (done g c).writes);
+  calls =
+      let old = g.D.Disk.device c.args.disk.now in
+      let new = g.D.Disk.device c.answer.new.disk in
+      let x = asked g c in
+      let items = before g c in
+      let P : ServerValue → Type 0 = λ s. IsCalledToSaveAt (received_saves s.topology (asks g c) (books_in s)) old new in
+      let Q : Option ℕ → Type 0 = λ region. IsCalledToSaveAt region old new in
+      subst P c.self.view_is
+      (subst Q (sym (saves_at (topology g c) (asks g c) (place g c) x.part (found g c) (there_in g c) (map server_book items) (server_book x) (its server_book g c)))
+      (done g c).calls);
+}
