@@ -173,7 +173,7 @@ fn serve_all(
     requires regions { HasRegions server.old.topology.circuits (length disk.old.regions) }
     requires ready { AreReady (disk_region disk.old) server.old }
     requires exist { All (λ (w : Waiting). w.region < length disk.old.regions) waiting.now }
-    ensures { AreServed now waiting.now net.now server.old server.new disk.old disk.new answers.new }
+    ensures { AreServed now waiting.now net.now server.old server.new disk.old disk.new answers.new.answers }
 {
     answers.clear();
     if waiting.is_empty() {
@@ -211,7 +211,7 @@ fn send_all(net: &mut Net, waiting: &[Waiting], answers: &BatchAnswers)
     ensures ups { (c : ℕ) → datagrams net.new c dir.Up ≡ datagrams net.old c dir.Up }
     ensures downs { (c : ℕ)
         → datagrams net.new c dir.Down
-        ≡ downs_after net.old.quota waiting.now answers.now c (datagrams net.old c dir.Down) }
+        ≡ downs_after net.old.quota waiting.now answers.now.answers c (datagrams net.old c dir.Down) }
     ensures circuits { length net.new.circuits ≡ length net.old.circuits }
     ensures quota { net.new.quota ≡ net.old.quota }
 {
@@ -235,7 +235,7 @@ fn answer_outcome(answer: Option<&Answer>) -> PartOutcome
 
 /// What came of the part of a circuit.
 fn outcome_for(circuit: Circuit, waiting: &[Waiting], answers: &BatchAnswers) -> PartOutcome
-    ensures value { result ≡ outcome_for circuit waiting.now answers.now }
+    ensures value { result ≡ outcome_for circuit waiting.now answers.now.answers }
 {
     'parts: for index in 0..waiting.len() {
         if waiting[index].circuit == circuit {
@@ -253,7 +253,7 @@ fn outcomes_of(
 ) -> [Option<PartOutcome>; MAX_BATCH]
     requires few { length parts.now ≤ 16 }
     ensures value { (i : ℕ) (part : BatchPart) → slice_get parts.now i ≡ Some part
-        → slice_get result i ≡ Some (Some (outcome_for part.circuit waiting.now answers.now)) }
+        → slice_get result i ≡ Some (Some (outcome_for part.circuit waiting.now answers.now.answers)) }
     ensures past { (i : ℕ) → length parts.now ≤ i → i < 16 → slice_get result i ≡ Some None }
 {
     let mut outcomes = [None; MAX_BATCH];

@@ -37,7 +37,7 @@ known : (c : goal.After-outcomes_of) → IsTakenBatch (old_world c) (new_world c
 known c =
     let w = old_world c in
     let new = new_world c in
-    let given = c.serve_all.new.answers in
+    let given = c.serve_all.new.answers.answers in
     let items = c.all_waiting-waiting.ensures.value in
     let same : c.as_slice-waiting.result.now ≡ all_parts w c.self.invariant c.args.sync c.args.parts.now = c.as_slice-waiting.ensures.value ∙ items in
     record {

@@ -6,9 +6,9 @@ use Rattle.world.proofs.world.batch.outcome_for.Goals as goal
 
 pub returns-then-eq : goal.returns-then-eq
 returns-then-eq c =
-    let step = outcome_step c.args.circuit c.index-waiting-index.result c.args.waiting.now c.args.answers.now c.parts.index c.parts-test.true in
-    let answer = answer_outcome (slice_get c.args.answers.now c.parts.index) in
-    let rest = outcome_for c.args.circuit (drop (c.parts.index + 1) c.args.waiting.now) (drop (c.parts.index + 1) c.args.answers.now) in
+    let step = outcome_step c.args.circuit c.index-waiting-index.result c.args.waiting.now c.args.answers.now.answers c.parts.index c.parts-test.true in
+    let answer = answer_outcome (slice_get c.args.answers.now.answers c.parts.index) in
+    let rest = outcome_for c.args.circuit (drop (c.parts.index + 1) c.args.waiting.now) (drop (c.parts.index + 1) c.args.answers.now.answers) in
     record {
       value =
           c.answer_outcome.ensures.value ∙ ap answer_outcome c.get.ensures
@@ -17,7 +17,7 @@ returns-then-eq c =
 
 pub parts-preserved : goal.parts-preserved
 parts-preserved c =
-    let step = outcome_step c.args.circuit c.index-waiting-index.result c.args.waiting.now c.args.answers.now c.parts.index c.parts-test.true in
-    let answer = answer_outcome (slice_get c.args.answers.now c.parts.index) in
-    let rest = outcome_for c.args.circuit (drop (c.parts.index + 1) c.args.waiting.now) (drop (c.parts.index + 1) c.args.answers.now) in
+    let step = outcome_step c.args.circuit c.index-waiting-index.result c.args.waiting.now c.args.answers.now.answers c.parts.index c.parts-test.true in
+    let answer = answer_outcome (slice_get c.args.answers.now.answers c.parts.index) in
+    let rest = outcome_for c.args.circuit (drop (c.parts.index + 1) c.args.waiting.now) (drop (c.parts.index + 1) c.args.answers.now.answers) in
     record { rest = ap (λ b. if b then answer else rest) (sym (sym c.eq.ensures ∙ c.if-eq.false)) ∙ sym step ∙ c.parts.invariant.rest }

@@ -10,7 +10,7 @@ use Rattle.world.proofs.world.batch.outcomes_of.Goals as goal
 
 pub parts-preserved : goal.parts-preserved
 parts-preserved c =
-    let f : BatchPart → Option PartOutcome = λ part. Some (outcome_for part.circuit c.args.waiting.now c.args.answers.now) in
+    let f : BatchPart → Option PartOutcome = λ part. Some (outcome_for part.circuit c.args.waiting.now c.args.answers.now.answers) in
     let n = c.parts.index in
     let d = c.index-parts-index.result in
     let loop = c.parts.invariant in

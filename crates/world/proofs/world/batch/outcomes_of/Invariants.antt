@@ -8,6 +8,6 @@ use Rattle.world.proofs.world.batch.outcomes_of.Given as goal
 abbrev pub invariant-parts : goal.invariant-parts
 invariant-parts l = record {
   size : length l.outcomes ≡ 16;
-  done : (i : ℕ) (part : BatchPart) → slice_get l.parts i ≡ Some part → i < l.index → slice_get l.outcomes i ≡ Some (Some (outcome_for part.circuit l.waiting l.answers));
+  done : (i : ℕ) (part : BatchPart) → slice_get l.parts i ≡ Some part → i < l.index → slice_get l.outcomes i ≡ Some (Some (outcome_for part.circuit l.waiting l.answers.answers));
   past : (i : ℕ) → l.index ≤ i → i < 16 → slice_get l.outcomes i ≡ Some None;
 }

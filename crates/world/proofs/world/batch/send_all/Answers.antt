@@ -19,7 +19,7 @@ parts-preserved c =
       downs = λ n.
           let before = datagrams c.parts.net n dir.Down in
           let answer = c.get.ensures in
-          ap (downs_after c.args.net.now.quota (drop (c.parts.index + 1) ws) (drop (c.parts.index + 1) c.args.answers.now) n)
+          ap (downs_after c.args.net.now.quota (drop (c.parts.index + 1) ws) (drop (c.parts.index + 1) c.args.answers.now.answers) n)
           (sent.downs n ∙ (λ i. if (c.index-waiting-index.is i).circuit == n then with_answer (loop.quota i) (c.index-waiting-index.is i).proto (answer i) before else before))
-          ∙ sym (downs_step c.args.net.now.quota n d ws c.args.answers.now c.parts.index before c.parts-test.true) ∙ loop.downs n;
+          ∙ sym (downs_step c.args.net.now.quota n d ws c.args.answers.now.answers c.parts.index before c.parts-test.true) ∙ loop.downs n;
     }

@@ -10,6 +10,6 @@ invariant-parts l = record {
   circuits : length l.net.circuits ≡ length l.fn.net.circuits;
   quota : l.net.quota ≡ l.fn.net.quota;
   ups : (c : ℕ) → datagrams l.net c dir.Up ≡ datagrams l.fn.net c dir.Up;
-  downs : (c : ℕ) → downs_after l.fn.net.quota (drop l.index l.waiting) (drop l.index l.answers) c (datagrams l.net c dir.Down)
-      ≡ downs_after l.fn.net.quota l.waiting l.answers c (datagrams l.fn.net c dir.Down);
+  downs : (c : ℕ) → downs_after l.fn.net.quota (drop l.index l.waiting) (drop l.index l.answers.answers) c (datagrams l.net c dir.Down)
+      ≡ downs_after l.fn.net.quota l.waiting l.answers.answers c (datagrams l.fn.net c dir.Down);
 }

@@ -1,7 +1,8 @@
-use Rattle.std.proofs.Common.{[], ◌∷◌, ◌≡◌, ℕ, List, length, refl, sym, subst, ◌∙◌, arith}
+use Rattle.std.proofs.Common.{[], ◌∷◌, ◌≡◌, ℕ, List, ap, length, refl, sym, subst, ◌∙◌, arith}
 use Rattle.std.specs.Prelude.{Result}
 use Rattle.std.proofs.lemmas.Bool.{eqb-true}
 use Rattle.types.specs.declared.discard.Discard.{Discard}
+use Rattle.dispatch.specs.Answers.{AnswersValue}
 use Rattle.dispatch.specs.ServerValue.{AreReady}
 use Rattle.lease_disk.specs.Device.{has_failed}
 use Rattle.lease_disk.specs.Model.{device_of}
@@ -19,14 +20,14 @@ returns-then-is_empty c =
     let ws = c.args.waiting.now in
     let none = no_length ws (eqb-true (length ws) 0 (sym c.is_empty.ensures ∙ c.if-is_empty.true)) in
     let P : List (Result (List ℕ) Discard) → Type 0 = λ answers. AreServed c.args.now ws c.args.net.now c.args.server.now c.args.server.now c.args.disk.now c.args.disk.now answers in
-    subst P (sym c.clear.ensures) (none_served c.args.now ws c.args.net.now c.args.server.now c.args.disk.now c.requires.ready none)
+    subst P (sym (ap (λ (a : AnswersValue). a.answers) c.clear.ensures)) (none_served c.args.now ws c.args.net.now c.args.server.now c.args.disk.now c.requires.ready none)
 
 pub receive_batch-requires-clause-ready : goal.receive_batch-requires-clause-ready
 receive_batch-requires-clause-ready c = λ tells. subst (λ states. AreReady states c.args.server.now) (sym c.set_faults.ensures.states) c.requires.ready
 
 pub returns : goal.returns
 returns c =
-    let given = c.receive_batch.new.answers in
+    let given = c.receive_batch.new.answers.answers in
     are_served c.args.now c.args.waiting.now c.args.net.now c.args.server.now c.receive_batch.new.self c.args.disk.now c.set_faults.new.disk c.receive_batch.new.disk c.set_faults-2.new.disk given
     c.receive_batch.ensures.topology c.set_faults.ensures.states c.set_faults.ensures.count c.set_faults.ensures.faults
     c.set_faults-2.ensures.states c.set_faults-2.ensures.count c.set_faults-2.ensures.faults _ (has_failed (device_of c.set_faults.new.disk) (device_of c.receive_batch.new.disk)) (c.datagrams_of-datagrams.ensures c.args.now)
