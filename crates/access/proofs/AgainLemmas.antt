@@ -7,19 +7,21 @@ use Rattle.lease_disk.specs.Device.{has_failed}
 use Rattle.lease_disk.specs.FileDisk.{FileDiskValue, device_of}
 use Rattle.circuit_server.specs.Answered.{IsAnswer}
 use Rattle.circuit_server.specs.Calls.{IsCalledToSaveAt}
+use Rattle.requests.specs.Addressee.{addressee}
+use Rattle.dispatch.specs.Answers.{circuit_in}
 use Rattle.dispatch.specs.Received.{received, received_saves}
 use Rattle.dispatch.specs.ServerValue.{ServerValue, books_in}
 use Rattle.udp.specs.History.{Entry}
 use Rattle.udp.specs.declared.history.Role.{Role}
 use Rattle.udp.specs.declared.history.Role.TheVariants as role
-use Rattle.counts.specs.Counts.{counted}
-use Rattle.counts.specs.declared.counts.Counts.{Counts}
+use Rattle.counts.specs.Tally.{tallied}
 use Rattle.counts.specs.declared.counts.Fate.{Fate}
-use Rattle.counts.specs.declared.counts.Fate.TheVariants as outcome
+use Rattle.counts.specs.declared.counts.Fate.TheVariants as fate
+use Rattle.counts.specs.declared.tally.Tally.{Tally}
 use Rattle.access.specs.Turn.{HasSentOn, with_bytes}
 use Rattle.access.proofs.AnswerLemmas.{went}
 use Rattle.types.specs.declared.discard.Discard.{Discard}
-use Rattle.access.specs.Batch.{AreReceivedAgain, IsAnswered, IsReceivedAgain, IsReceivedAgainAt, Serving, is_repeated, made_of, serving}
+use Rattle.access.specs.Batch.{AreReceivedAgain, IsAnswered, IsReceivedAgain, IsReceivedAgainAt, Serving, is_repeated, made_of, fate_at_server, serving}
 use Rattle.access.specs.Taken.{all_delivered, delivered}
 use Rattle.access.specs.declared.datagrams.Datagram.{Datagram}
 use Rattle.access.proofs.UpLemmas.{is_there}
@@ -27,25 +29,25 @@ use Rattle.access.proofs.UpLemmas.{is_there}
 -- ---- those that are repeated
 
 -- one that was received alone, and its reply sent
-pub answered_alone : (now : ℕ) (d : Datagram) (server server_after : ServerValue) (disk disk_after : FileDiskValue) (counts counts_after : Counts) (history history_after : List Entry) (made : Result (Unit {0}) Discard) (bytes out reply : List ℕ) (socket : Role) (became : Fate)
+pub answered_alone : (now : ℕ) (d : Datagram) (server server_after : ServerValue) (disk disk_after : FileDiskValue) (tally tally_after : Tally) (history history_after : List Entry) (made : Result (Unit {0}) Discard) (bytes out reply : List ℕ) (socket : Role) (became : Fate)
     → bytes ≡ take d.len d.buffer → IsAnswer (received server.topology (delivery d.proto d.source now bytes) (has_failed (device_of disk) (device_of disk_after)) (books_in server)).answer made out
     → books_in server_after ≡ (received server.topology (delivery d.proto d.source now bytes) (has_failed (device_of disk) (device_of disk_after)) (books_in server)).books
     → IsCalledToSaveAt (received_saves server.topology (delivery d.proto d.source now bytes) (books_in server)) (device_of disk) (device_of disk_after)
-    → server_after.topology ≡ server.topology → disk_after.regions ≡ disk.regions → socket ≡ role.Server d.proto → reply ≡ out → HasSentOn socket d.source outcome.Answered (with_bytes made reply) history history_after became
-    → counts_after ≡ counted became counts → IsAnswered (delivered now d) (serving server disk counts history) (serving server_after disk_after counts_after history_after)
-answered_alone now d server server_after disk disk_after counts counts_after history history_after made bytes out reply socket became same answer books calls topology regions own is sent count =
-    let old = serving server disk counts history in
-    let new = serving server_after disk_after counts_after history_after in
+    → server_after.topology ≡ server.topology → disk_after.regions ≡ disk.regions → socket ≡ role.Server d.proto → reply ≡ out → HasSentOn socket d.source fate.Answered (with_bytes made reply) history history_after became
+    → tally_after ≡ tallied (fate_at_server (circuit_in (addressee server.topology (delivered now d))) became) tally → IsAnswered (delivered now d) (serving server disk tally history) (serving server_after disk_after tally_after history_after)
+answered_alone now d server server_after disk disk_after tally tally_after history history_after made bytes out reply socket became same answer books calls topology regions own is sent count =
+    let old = serving server disk tally history in
+    let new = serving server_after disk_after tally_after history_after in
     let fails = has_failed (device_of disk) (device_of disk_after) in
     let its = subst (λ b. IsAnswer (received server.topology (delivery d.proto d.source now b) fails (books_in server)).answer made out) same answer in
-    let w = went socket (role.Server d.proto) d.source d.source outcome.Answered (made_of (delivered now d) old new).answer made reply out history history_after became own refl is its sent in
+    let w = went socket (role.Server d.proto) d.source d.source fate.Answered (made_of (delivered now d) old new).answer made reply out history history_after became own refl is its sent in
     record {
       rest = w.rest;
       became = became;
       books = subst (λ b. books_in server_after ≡ (received server.topology (delivery d.proto d.source now b) fails (books_in server)).books) same books;
       calls = subst (λ b. IsCalledToSaveAt (received_saves server.topology (delivery d.proto d.source now b) (books_in server)) (device_of disk) (device_of disk_after)) same calls;
       goes_on = w.goes_on;
-      counts = count;
+      tally = count;
       history = w.history;
       stays = record { topology = topology; regions = regions };
     }

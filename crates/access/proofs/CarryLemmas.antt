@@ -7,19 +7,18 @@ use Rattle.udp.specs.declared.datagram_socket.Attempt.{Attempt}
 use Rattle.udp.specs.declared.datagram_socket.Attempt.TheVariants as attempt
 use Rattle.udp.specs.declared.history.Role.{Role}
 use Rattle.access.specs.Access.{AccessValue, HasCarried}
-use Rattle.counts.specs.Counts.{counted, counted_all}
+use Rattle.counts.specs.Tally.{CircuitFate, tallied, tallied_all}
 use Rattle.access.specs.Turn.{Both, CircuitSocket, InOrder, IsSentUp, IsTried, Tries}
 use Rattle.config.specs.Topology.{Topology}
 use Rattle.types.specs.declared.dest.Proto.TheVariants.{V4, V6}
 use Rattle.udp.specs.declared.history.Role.TheVariants as role
-use Rattle.counts.specs.declared.counts.Counts.{Counts}
-use Rattle.counts.specs.declared.counts.Fate.{Fate}
+use Rattle.counts.specs.declared.tally.Tally.{Tally}
 
-pub counted_append : (a b : List Fate) (c : Counts) → counted_all (a ++ b) c ≡ counted_all b (counted_all a c)
-counted_append [] b c = refl
-counted_append (o ∷ a) b c = counted_append a b (counted o c)
+pub tallied_append : (a b : List CircuitFate) (t : Tally) → tallied_all (a ++ b) t ≡ tallied_all b (tallied_all a t)
+tallied_append [] b t = refl
+tallied_append (o ∷ a) b t = tallied_append a b (tallied o t)
 
-pub length_append : (a b : List Fate) → length (a ++ b) ≡ length a + length b
+pub length_append : (a b : List CircuitFate) → length (a ++ b) ≡ length a + length b
 length_append [] b = omega arith
 length_append (o ∷ a) b = let inside : length (a ++ b) ≡ length a + length b = length_append a b in omega (arith, inside)
 
@@ -36,8 +35,8 @@ carried_then First Second m n a b c first second = record {
   outcomes = first.outcomes ++ second.outcomes;
   tried = record { before = first.entries; after = second.entries; done = first.outcomes; more = second.outcomes; one = first.tried; other = second.tried; entries_are = refl; outcomes_are = refl };
   many = length_append first.outcomes second.outcomes ∙ ap₂ (λ i j. i + j) first.many second.many;
-  after = second.after ∙ (ap (λ (s : AccessValue). record s { counts = counted_all second.outcomes s.counts; history = s.history ++ second.entries }) first.after
-      ∙ ap₂ (λ (counts : Counts) (history : List Entry). record a { counts = counts; history = history }) (sym (counted_append first.outcomes second.outcomes a.counts))
+  after = second.after ∙ (ap (λ (s : AccessValue). record s { tally = tallied_all second.outcomes s.tally; history = s.history ++ second.entries }) first.after
+      ∙ ap₂ (λ (tally : Tally) (history : List Entry). record a { tally = tally; history = history }) (sym (tallied_append first.outcomes second.outcomes a.tally))
       (append_assoc a.history first.entries second.entries));
 }
 
@@ -60,21 +59,21 @@ idle_attempt socket buffer old new attempt.Empty none added = inl added
 idle_attempt socket buffer old new attempt.Failed none added = inr added
 
 -- a socket from which nothing was taken
-pub carried_idle : (role : Role) (Made : Source → List ℕ → List Entry → Fate → Type 0) (old : AccessValue) (history : List Entry)
+pub carried_idle : (role : Role) (Made : Source → List ℕ → List Entry → CircuitFate → Type 0) (old : AccessValue) (history : List Entry)
     → (history ≡ with_entry (Empty role) old.history) ⊎ (history ≡ with_entry (Failed role) old.history) → HasCarried (IsTried role Made) 0 old (record old { history = history })
 carried_idle role Made old history (inl empty) = record { entries = Empty role ∷ []; outcomes = []; tried = inl (inl refl, refl); many = refl; after = ap (λ (h : List Entry). record old { history = h }) empty }
 carried_idle role Made old history (inr failed) = record { entries = Failed role ∷ []; outcomes = []; tried = inl (inr refl, refl); many = refl; after = ap (λ (h : List Entry). record old { history = h }) failed }
 
 -- a socket from which a datagram was taken, something was made of it, and that was counted
-pub carried_taken : (role : Role) (Made : Source → List ℕ → List Entry → Fate → Type 0) (old : AccessValue) (taken history rest : List Entry) (counts : Counts) (from : Source) (bytes : List ℕ) (became : Fate)
-    → taken ≡ with_entry (Took role from bytes) old.history → history ≡ taken ++ rest → counts ≡ counted became old.counts → Made from bytes rest became
-    → HasCarried (IsTried role Made) 1 old (record old { counts = counts; history = history })
-carried_taken role Made old taken history rest counts from bytes became took added count made = record {
+pub carried_taken : (role : Role) (Made : Source → List ℕ → List Entry → CircuitFate → Type 0) (old : AccessValue) (taken history rest : List Entry) (tally : Tally) (from : Source) (bytes : List ℕ) (outcome : CircuitFate)
+    → taken ≡ with_entry (Took role from bytes) old.history → history ≡ taken ++ rest → tally ≡ tallied outcome old.tally → Made from bytes rest outcome
+    → HasCarried (IsTried role Made) 1 old (record old { tally = tally; history = history })
+carried_taken role Made old taken history rest tally from bytes outcome took added count made = record {
   entries = Took role from bytes ∷ rest;
-  outcomes = became ∷ [];
-  tried = inr (record { from = from; bytes = bytes; rest = rest; outcome = became; entries_are = refl; outcomes_are = refl; made = made });
+  outcomes = outcome ∷ [];
+  tried = inr (record { from = from; bytes = bytes; rest = rest; outcome = outcome; entries_are = refl; outcomes_are = refl; made = made });
   many = refl;
-  after = ap₂ (λ (c : Counts) (h : List Entry). record old { counts = c; history = h }) count (added ∙ ap (λ h. h ++ rest) took ∙ append_assoc old.history (Took role from bytes ∷ []) rest);
+  after = ap₂ (λ (t : Tally) (h : List Entry). record old { tally = t; history = h }) count (added ∙ ap (λ h. h ++ rest) took ∙ append_assoc old.history (Took role from bytes ∷ []) rest);
 }
 
 -- two sockets of a circuit, at neither of which a datagram waits

@@ -11,7 +11,7 @@ use Rattle.udp.specs.declared.datagram_socket.Attempt.TheVariants as attempt
 use Rattle.udp.specs.declared.history.Role.{Role}
 use Rattle.udp.specs.declared.history.Role.TheVariants.{Circuit, Server, Relay}
 use Rattle.access.specs.Taken.{HasTriedNext, after_attempt, all_delivered, attempt_datagrams, delivered}
-use Rattle.access.specs.Polling.{AreTries, IsNext, after_tries, after_try, again, begun, deliveries_in, delivery_in, may_wait, next_of, other, server_socket, waiting_at}
+use Rattle.access.specs.Polling.{AreTries, IsNextTry, after_tries, after_try, again, begun, deliveries_in, delivery_in, may_wait, next_of, other, server_socket, waiting_at}
 use Rattle.access.specs.declared.datagrams.Datagram.{Datagram}
 use Rattle.access.specs.declared.polling.Polling.{Polling}
 use Rattle.access.specs.declared.polling.Waiting.{Waiting}
@@ -27,7 +27,7 @@ pub record HasPolled (most : ℕ) (first : Proto) (state : Polling) (taken : Lis
 
 -- ---- one try more
 
-tries_more : (p : Polling) (entries : List Entry) (entry : Entry) → AreTries p entries → IsNext (after_tries entries p) entry → AreTries p (entries ++ entry ∷ [])
+tries_more : (p : Polling) (entries : List Entry) (entry : Entry) → AreTries p entries → IsNextTry (after_tries entries p) entry → AreTries p (entries ++ entry ∷ [])
 tries_more p [] entry tries next = (next, tt)
 tries_more p (e ∷ entries) entry tries next = (tries.0, tries_more (after_try e p) entries entry tries.1 next)
 
@@ -39,7 +39,7 @@ pub polled_more : (most : ℕ) (first proto : Proto) (before after : Polling) (t
     → HasPolled most first before taken old middle → HasTriedNext proto before after taken more middle new → HasPolled most first after more old new
 polled_more most first proto before after taken more old middle new polled tried = record {
   entries = polled.entries ++ tried.entry ∷ [];
-  tries = tries_more (begun most first) polled.entries tried.entry polled.tries (subst (λ p. IsNext p tried.entry) polled.state_is tried.next);
+  tries = tries_more (begun most first) polled.entries tried.entry polled.tries (subst (λ p. IsNextTry p tried.entry) polled.state_is tried.next);
   state_is = tried.state ∙ ap (after_try tried.entry) polled.state_is ∙ sym (after_more (begun most first) polled.entries tried.entry);
   history = tried.history ∙ ap (λ h. h ++ tried.entry ∷ []) polled.history ∙ append_assoc old polled.entries (tried.entry ∷ []);
   datagrams = λ now. tried.datagrams now ∙ ap (λ ds. ds ++ deliveries_in now (tried.entry ∷ [])) (polled.datagrams now) ∙ sym (filter_map-append (delivery_in now) polled.entries (tried.entry ∷ []));

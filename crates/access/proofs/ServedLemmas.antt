@@ -8,30 +8,36 @@ use Rattle.config.specs.Topology.{Topology}
 use Rattle.requests.specs.Addressee.{addressee}
 use Rattle.circuit_server.specs.Answered.{answered}
 use Rattle.circuit_server.specs.Server.{Book}
-use Rattle.dispatch.specs.Batch.{IsBatch, is_circuit, is_named}
+use Rattle.dispatch.specs.Answers.{circuit_at, circuit_in}
+use Rattle.dispatch.specs.Batch.{IsBatch, circuits_of, is_circuit, is_named}
 use Rattle.dispatch.specs.Received.{addressee_answered, circuit_answered}
 use Rattle.dispatch.specs.ServerValue.{ServerValue, books_in}
 use Rattle.dispatch.proofs.BatchLemmas.{circuit_is, first_there}
 use Rattle.udp.specs.History.{Entry}
-use Rattle.counts.specs.Counts.{counted_all}
-use Rattle.counts.specs.declared.counts.Counts.{Counts}
-use Rattle.counts.specs.declared.counts.Fate.{Fate}
+use Rattle.counts.specs.Tally.{CircuitFate, tallied_all}
+use Rattle.counts.specs.declared.tally.Tally.{Tally}
 use Rattle.sockets.specs.Sockets.{AreBound}
 use Rattle.sockets.specs.declared.sockets.Sockets.{Sockets}
 use Rattle.types.specs.declared.addr.Source.{Source}
 use Rattle.dispatch.specs.Regions.{HasRegions}
-use Rattle.access.specs.Access.{AccessValue, HasCounted, HasServed, IsAccess, StayClosed, serving_in}
-use Rattle.access.specs.Batch.{AreReceived, AreReceivedAgain, AreReplied, HasTried, IsReceivedAgain, IsReplied, Serving, StaysServing, is_repeated, serving}
+use Rattle.access.specs.Access.{AccessValue, HasServed, IsAccess, StayClosed, serving_in}
+use Rattle.access.specs.Batch.{AreReceived, AreReceivedAgain, AreReplied, HasTried, IsReceivedAgain, IsReplied, Serving, StaysServing, is_repeated, fate_at_server, serving}
 use Rattle.access.specs.Polling.{deliveries_in}
-use Rattle.access.proofs.CarryLemmas.{counted_append, length_append}
+use Rattle.access.proofs.CarryLemmas.{length_append, tallied_append}
 
 -- ---- each datagram is counted once
 
-pub counted_then : (m n : ℕ) (a b c : Counts) → HasCounted m a b → HasCounted n b c → HasCounted (m + n) a c
-counted_then m n a b c first then = record {
+-- something became of each of so many datagrams, and is counted
+pub record HasTallied (count : ℕ) (old new : Tally) : Type 0 where
+  pub outcomes : List CircuitFate
+  pub many : length outcomes ≡ count
+  pub after : new ≡ tallied_all outcomes old
+
+pub tallied_then : (m n : ℕ) (a b c : Tally) → HasTallied m a b → HasTallied n b c → HasTallied (m + n) a c
+tallied_then m n a b c first then = record {
   outcomes = first.outcomes ++ then.outcomes;
   many = length_append first.outcomes then.outcomes ∙ ap₂ (λ i j. i + j) first.many then.many;
-  after = then.after ∙ (ap (counted_all then.outcomes) first.after ∙ sym (counted_append first.outcomes then.outcomes a));
+  after = then.after ∙ (ap (tallied_all then.outcomes) first.after ∙ sym (tallied_append first.outcomes then.outcomes a));
 }
 
 abbrev one_if : Bool → ℕ
@@ -42,52 +48,53 @@ abbrev one_repeated : Option (Result (List ℕ) Discard) → ℕ
 one_repeated (Some answer) = one_if (is_repeated answer)
 one_repeated None = 0
 
-module _ (taken : List DeliveryValue) (answers : List (Result (List ℕ) Discard)) where
+module _ (taken : List DeliveryValue) (circuits : List (Option ℕ)) (answers : List (Result (List ℕ) Discard)) where
   -- how many of the first n answers are of repeated datagrams
   abbrev repeated : ℕ → ℕ
   repeated zero = 0
   repeated (suc n) = repeated n + one_repeated (slice_get answers n)
 
-  one_replied : (b : Bool) (d : DeliveryValue) (answer : Result (List ℕ) Discard) (entries : List Entry) (outcomes : List Fate) → IsReplied b d answer entries outcomes → length outcomes + one_if b ≡ 1
-  one_replied true d answer entries outcomes replied = ap (λ (os : List Fate). length os + 1) replied.1
-  one_replied false d answer entries outcomes replied = ap (λ (os : List Fate). length os + 0) replied.1
+  one_replied : (b : Bool) (circuit : Option ℕ) (d : DeliveryValue) (answer : Result (List ℕ) Discard) (entries : List Entry) (outcomes : List CircuitFate) → IsReplied b circuit d answer entries outcomes → length outcomes + one_if b ≡ 1
+  one_replied true circuit d answer entries outcomes replied = ap (λ (os : List CircuitFate). length os + 1) replied.1
+  one_replied false circuit d answer entries outcomes replied = ap (λ (os : List CircuitFate). length os + 0) replied.1
 
-  many_replied : (n : ℕ) (entries : List Entry) (outcomes : List Fate) → AreReplied taken answers n entries outcomes → length outcomes + repeated n ≡ n
-  many_replied zero entries outcomes replied = ap (λ (os : List Fate). length os + 0) replied.1
+  many_replied : (n : ℕ) (entries : List Entry) (outcomes : List CircuitFate) → AreReplied taken circuits answers n entries outcomes → length outcomes + repeated n ≡ n
+  many_replied zero entries outcomes replied = ap (λ (os : List CircuitFate). length os + 0) replied.1
   many_replied (suc n) entries outcomes both =
       let before = many_replied n both.before both.done both.one in
       let last = both.other in
       let one : length both.more + one_repeated (slice_get answers n) ≡ 1 =
-      ap (λ a. length both.more + one_repeated a) last.answered_at ∙ one_replied (is_repeated last.its_answer) last.its_datagram last.its_answer both.after both.more last.replied in
+      ap (λ a. length both.more + one_repeated a) last.answered_at ∙ one_replied (is_repeated last.its_answer) (circuit_at circuits n) last.its_datagram last.its_answer both.after both.more last.replied in
       let all : length outcomes ≡ length both.done + length both.more = ap length both.outcomes_are ∙ length_append both.done both.more in
       omega (arith, before, one, all)
 
-  one_again : (b : Bool) (d : DeliveryValue) (old new : Serving) → IsReceivedAgain b d old new → HasCounted (one_if b) old.counts new.counts
-  one_again true d old new again = record { outcomes = again.became ∷ []; many = refl; after = again.counts }
-  one_again false d old new same = record { outcomes = []; many = refl; after = ap (λ (s : Serving). s.counts) same }
+  one_again : (b : Bool) (d : DeliveryValue) (old new : Serving) → IsReceivedAgain b d old new → HasTallied (one_if b) old.tally new.tally
+  one_again true d old new again = record { outcomes = fate_at_server (circuit_in (addressee old.server.topology d)) again.became ∷ []; many = refl; after = again.tally }
+  one_again false d old new same = record { outcomes = []; many = refl; after = ap (λ (s : Serving). s.tally) same }
 
-  many_again : (n : ℕ) (old new : Serving) → AreReceivedAgain taken answers n old new → HasCounted (repeated n) old.counts new.counts
-  many_again zero old new same = record { outcomes = []; many = refl; after = ap (λ (s : Serving). s.counts) same }
+  many_again : (n : ℕ) (old new : Serving) → AreReceivedAgain taken answers n old new → HasTallied (repeated n) old.tally new.tally
+  many_again zero old new same = record { outcomes = []; many = refl; after = ap (λ (s : Serving). s.tally) same }
   many_again (suc n) old new (middle, before, last) =
       let one = one_again (is_repeated last.its_answer) last.its_datagram middle new last.received in
-      counted_then (repeated n) (one_repeated (slice_get answers n)) old.counts middle.counts new.counts (many_again n old middle before)
-      (subst (λ a. HasCounted (one_repeated a) middle.counts new.counts) (sym last.answered_at) one)
+      tallied_then (repeated n) (one_repeated (slice_get answers n)) old.tally middle.tally new.tally (many_again n old middle before)
+      (subst (λ a. HasTallied (one_repeated a) middle.tally new.tally) (sym last.answered_at) one)
 
-  all_counted : (n : ℕ) (saved new : Serving) (counts : Counts) (history : List Entry) → HasTried (AreReplied taken answers n) saved.counts counts saved.history history
-      → AreReceivedAgain taken answers n (serving saved.server saved.disk counts history) new → HasCounted n saved.counts new.counts
-  all_counted n saved new counts history replied again =
-      let first : HasCounted (length replied.outcomes) saved.counts counts = record { outcomes = replied.outcomes; many = refl; after = replied.counts } in
-      subst (λ k. HasCounted k saved.counts new.counts) (many_replied n replied.entries replied.outcomes replied.tried)
-      (counted_then (length replied.outcomes) (repeated n) saved.counts counts new.counts first (many_again n _ new again))
+  all_tallied : (n : ℕ) (saved new : Serving) (tally : Tally) (history : List Entry) → HasTried (AreReplied taken circuits answers n) saved.tally tally saved.history history
+      → AreReceivedAgain taken answers n (serving saved.server saved.disk tally history) new → HasTallied n saved.tally new.tally
+  all_tallied n saved new tally history replied again =
+      let first : HasTallied (length replied.outcomes) saved.tally tally = record { outcomes = replied.outcomes; many = refl; after = replied.tally } in
+      subst (λ k. HasTallied k saved.tally new.tally) (many_replied n replied.entries replied.outcomes replied.tried)
+      (tallied_then (length replied.outcomes) (repeated n) saved.tally tally new.tally first (many_again n _ new again))
 
-same_counts : (taken : List DeliveryValue) (answers : List (Result (List ℕ) Discard)) (old new : Serving) → AreReceived taken answers old new → new.counts ≡ old.counts
-same_counts [] answers old new same = ap (λ (s : Serving). s.counts) same
-same_counts (d ∷ taken) answers old new received = ap (λ (s : Serving). s.counts) received.rest
+same_tally : (taken : List DeliveryValue) (answers : List (Result (List ℕ) Discard)) (old new : Serving) → AreReceived taken answers old new → new.tally ≡ old.tally
+same_tally [] answers old new same = ap (λ (s : Serving). s.tally) same
+same_tally (d ∷ taken) answers old new received = ap (λ (s : Serving). s.tally) received.rest
 
-pub served_counts : (now n : ℕ) (a b : AccessValue) → HasServed now n a b → HasCounted n a.counts b.counts
-served_counts now n a b served =
-    subst (λ counts. HasCounted n counts b.counts) (same_counts (deliveries_in now served.entries) served.answers _ served.saved served.received)
-    (all_counted (deliveries_in now served.entries) served.answers n served.saved (serving_in b) served.counts served.history served.replied served.again)
+pub served_tally : (now n : ℕ) (a b : AccessValue) → HasServed now n a b → HasTallied n a.tally b.tally
+served_tally now n a b served =
+    let taken = deliveries_in now served.entries in
+    subst (λ tally. HasTallied n tally b.tally) (same_tally taken served.answers _ served.saved served.received)
+    (all_tallied taken (circuits_of a.server.topology taken) served.answers n served.saved (serving_in b) served.tally served.history served.replied served.again)
 
 -- ---- books
 
@@ -100,9 +107,9 @@ pub idle_server : (now n : ℕ) (a b : AccessValue) → HasServed now n a b → 
 idle_server now n a b served none =
     let taken = deliveries_in now served.entries in
     let empty = none_taken taken (sym served.many ∙ none) in
-    let saved : served.saved ≡ serving a.server a.disk a.counts (a.history ++ served.entries) = subst (λ ds. AreReceived ds served.answers (serving a.server a.disk a.counts (a.history ++ served.entries)) served.saved) empty served.received in
-    let again : serving_in b ≡ serving served.saved.server served.saved.disk served.counts served.history =
-    subst (λ k. AreReceivedAgain taken served.answers k (serving served.saved.server served.saved.disk served.counts served.history) (serving_in b)) none served.again in
+    let saved : served.saved ≡ serving a.server a.disk a.tally (a.history ++ served.entries) = subst (λ ds. AreReceived ds served.answers (serving a.server a.disk a.tally (a.history ++ served.entries)) served.saved) empty served.received in
+    let again : serving_in b ≡ serving served.saved.server served.saved.disk served.tally served.history =
+    subst (λ k. AreReceivedAgain taken served.answers k (serving served.saved.server served.saved.disk served.tally served.history) (serving_in b)) none served.again in
     ap (λ (s : Serving). s.server) again ∙ ap (λ (s : Serving). s.server) saved
 
 set_closed : (books : List (Option Book)) (c at : ℕ) (book : Option Book) → slice_get books c ≡ Some None → (slice_get books at ≡ Some None → book ≡ None)
@@ -178,11 +185,11 @@ again_stays taken answers zero old new same = stays_same old new same
 again_stays taken answers (suc n) old new (middle, before, last) =
     stays_then old middle new (again_stays taken answers n old middle before) (one_stays (is_repeated last.its_answer) last.its_datagram middle new last.received)
 
-pub all_stays : (taken later : List DeliveryValue) (answers : List (Result (List ℕ) Discard)) (n : ℕ) (old saved new : Serving) (counts : Counts) (history : List Entry) → AreReceived taken answers old saved
-    → AreReceivedAgain later answers n (serving saved.server saved.disk counts history) new → StaysServing old new
-all_stays taken later answers n old saved new counts history received again =
+pub all_stays : (taken later : List DeliveryValue) (answers : List (Result (List ℕ) Discard)) (n : ℕ) (old saved new : Serving) (tally : Tally) (history : List Entry) → AreReceived taken answers old saved
+    → AreReceivedAgain later answers n (serving saved.server saved.disk tally history) new → StaysServing old new
+all_stays taken later answers n old saved new tally history received again =
     let one = received_stays taken answers old saved received in
-    let other = again_stays later answers n (serving saved.server saved.disk counts history) new again in
+    let other = again_stays later answers n (serving saved.server saved.disk tally history) new again in
     record { topology = other.topology ∙ one.topology; regions = other.regions ∙ one.regions }
 
 -- what an `Access` keeps

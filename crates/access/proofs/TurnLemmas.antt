@@ -1,39 +1,52 @@
 -- What follows from the steps of a turn.
-use Rattle.std.proofs.Common.{◌≡◌, ◌∙◌, ◌+◌, ◌≤◌, ℕ, suc, List, [], ◌∷◌, length, refl, sym, ap, subst, arith}
+use Rattle.std.proofs.Common.{◌≡◌, ◌∙◌, ◌+◌, ◌≤◌, ℕ, suc, List, [], ◌∷◌, length, map, refl, sym, ap, subst, arith}
 use Rattle.std.specs.Prelude.{None, Some, slice_get}
 use Rattle.dispatch.specs.ServerValue.{ServerValue, books_in}
 use Rattle.udp.specs.History.{Entry}
 use Rattle.access.specs.Access.{AccessValue, HasCarried, HasCounted, HasServedTurns, HasTurned, StayClosed, books_at}
 use Rattle.counts.specs.Counts.{counted_all, more_by}
+use Rattle.counts.specs.Tally.{CircuitFate}
+use Rattle.counts.proofs.TallyLemmas.{all_counted}
+use Rattle.std.proofs.lemmas.List.{length-map}
 use Rattle.access.specs.Moments.{HasRead}
 use Rattle.access.specs.Turn.{Tries}
 use Rattle.counts.specs.declared.counts.Counts.{Counts}
 use Rattle.counts.specs.declared.counts.Fate.{Fate}
-use Rattle.counts.specs.declared.counts.Fate.TheVariants as outcome
+use Rattle.counts.specs.declared.counts.Fate.TheVariants as fate
+use Rattle.counts.specs.declared.tally.Tally.{Tally}
 use Rattle.access.proofs.ClockLemmas.{ticked_closed}
-use Rattle.access.proofs.ServedLemmas.{counted_then, idle_server, served_closed, served_counts}
+use Rattle.access.proofs.ServedLemmas.{HasTallied, idle_server, served_closed, served_tally, tallied_then}
 
 -- ---- counts
 
-carried_counts : (Try : Tries) (n : ℕ) (a b : AccessValue) → HasCarried Try n a b → HasCounted n a.counts b.counts
-carried_counts Try n a b carried = record { outcomes = carried.outcomes; many = carried.many; after = ap (λ (s : AccessValue). s.counts) carried.after }
+carried_tally : (Try : Tries) (n : ℕ) (a b : AccessValue) → HasCarried Try n a b → HasTallied n a.tally b.tally
+carried_tally Try n a b carried = record { outcomes = carried.outcomes; many = carried.many; after = ap (λ (s : AccessValue). s.tally) carried.after }
 
-pub turned_counts : (now n : ℕ) (old new : AccessValue) → HasTurned now n old new → HasCounted n old.counts new.counts
+turned_tally : (now n : ℕ) (old new : AccessValue) → HasTurned now n old new → HasTallied n old.tally new.tally
+turned_tally now n old new t =
+    let frames = carried_tally _ t.frames old t.relayed t.from_circuits in
+    let served = served_tally now t.datagrams t.relayed t.served t.at_server in
+    let answers = carried_tally _ t.answers t.served t.delivered t.from_relays in
+    let all = tallied_then (t.frames + t.datagrams) t.answers _ _ _ (tallied_then t.frames t.datagrams _ _ _ frames served) answers in
+    subst (λ k. HasTallied k old.tally new.tally) (sym t.many) (subst (λ tally. HasTallied (t.frames + t.datagrams + t.answers) old.tally tally) (sym t.tally) all)
+
+pub turned_counts : (now n : ℕ) (old new : AccessValue) → HasTurned now n old new → HasCounted n old.tally.all new.tally.all
 turned_counts now n old new t =
-    let frames = carried_counts _ t.frames old t.relayed t.from_circuits in
-    let served = served_counts now t.datagrams t.relayed t.served t.at_server in
-    let answers = carried_counts _ t.answers t.served t.delivered t.from_relays in
-    let all = counted_then (t.frames + t.datagrams) t.answers _ _ _ (counted_then t.frames t.datagrams _ _ _ frames served) answers in
-    subst (λ k. HasCounted k old.counts new.counts) (sym t.many) (subst (λ counts. HasCounted (t.frames + t.datagrams + t.answers) old.counts counts) (sym t.counts) all)
+    let all = turned_tally now n old new t in
+    record {
+      outcomes = map (λ (o : CircuitFate). o.became) all.outcomes;
+      many = length-map all.outcomes (λ (o : CircuitFate). o.became) ∙ all.many;
+      after = ap (λ (tally : Tally). tally.all) all.after ∙ all_counted all.outcomes old.tally;
+    }
 
 received_by : (outcomes : List Fate) (a : Counts) → (counted_all outcomes a).received ≤ 18446744073709551615
     → (counted_all outcomes a).received ≡ more_by (length outcomes) a.received
 received_by [] a most = omega (arith, most)
-received_by (outcome.Relayed ∷ os) a most = let rest = received_by os _ most in omega (arith, rest)
-received_by (outcome.Answered ∷ os) a most = let rest = received_by os _ most in omega (arith, rest)
-received_by (outcome.Delivered ∷ os) a most = let rest = received_by os _ most in omega (arith, rest)
-received_by (outcome.Unsent ∷ os) a most = let rest = received_by os _ most in omega (arith, rest)
-received_by (outcome.Dropped why ∷ os) a most = let rest = received_by os _ most in omega (arith, rest)
+received_by (fate.Relayed ∷ os) a most = let rest = received_by os _ most in omega (arith, rest)
+received_by (fate.Answered ∷ os) a most = let rest = received_by os _ most in omega (arith, rest)
+received_by (fate.Delivered ∷ os) a most = let rest = received_by os _ most in omega (arith, rest)
+received_by (fate.Unsent ∷ os) a most = let rest = received_by os _ most in omega (arith, rest)
+received_by (fate.Dropped why ∷ os) a most = let rest = received_by os _ most in omega (arith, rest)
 
 pub counted_received : (n : ℕ) (a b : Counts) → HasCounted n a b → b.received ≤ 18446744073709551615 → b.received ≡ more_by n a.received
 counted_received n a b counts most =

@@ -5,6 +5,7 @@ use Rattle.types.specs.declared.dest.Proto.{Proto}
 use Rattle.types.specs.declared.dest.Proto.TheVariants.{V4}
 use Rattle.types.specs.declared.discard.Discard.{Discard}
 use Rattle.lease_disk.specs.FileDisk.{FileDiskValue}
+use Rattle.dispatch.specs.Batch.{circuits_of}
 use Rattle.dispatch.specs.Regions.{HasRegions}
 use Rattle.circuit_server.specs.Server.{Book, book_at}
 use Rattle.dispatch.specs.ServerValue.{ServerValue, books_in}
@@ -12,7 +13,8 @@ use Rattle.config.specs.CircuitPart.{parts_of}
 use Rattle.config.specs.Topology.{IsTopology, Topology, serves, topology_of}
 use Rattle.settings.specs.Settings.{Settings}
 use Rattle.udp.specs.History.{Entry, Ticked, with_entry}
-use Rattle.counts.specs.Counts.{counted_all, none}
+use Rattle.counts.specs.Counts.{counted_all}
+use Rattle.counts.specs.Tally.{CircuitFate, nothing_taken, tallied_all}
 use Rattle.access.specs.Batch.{AreReceived, AreReceivedAgain, AreReplied, HasTried, Serving, serving}
 use Rattle.access.specs.Moments.{HasRead}
 use Rattle.access.specs.Polling.{IsPolled, deliveries_in}
@@ -26,6 +28,7 @@ use Rattle.sockets.specs.declared.sockets.SocketFault.TheVariants as socket
 use Rattle.sockets.specs.declared.sockets.Sockets.{Sockets}
 use Rattle.counts.specs.declared.counts.Counts.{Counts}
 use Rattle.counts.specs.declared.counts.Fate.{Fate}
+use Rattle.counts.specs.declared.tally.Tally.{Tally}
 use Rattle.access.specs.Turn.{CircuitsSockets, RelaysSockets, Tries}
 
 pub record AccessValue : Type 0 where
@@ -40,8 +43,8 @@ pub record AccessValue : Type 0 where
   -- how many datagrams the server takes at most in a turn, and which of its sockets the next turn tries first
   pub batch : ℕ
   pub first : Proto
-  -- what became of the datagrams that were taken
-  pub counts : Counts
+  -- what became of the datagrams that were taken, of all and of those of each circuit
+  pub tally : Tally
   -- what happened at the sockets, and how many turns were made
   pub history : List Entry
   pub turns : ℕ
@@ -74,7 +77,7 @@ RefusesSocket Bound (fault.Socket at) = Bound at
 RefusesSocket Bound fault.TooManyCircuits = ⊤
 
 -- Relay and server of this configuration, over this device, before the first turn: they go on with the history of their sockets.
-pub record IsOpened (config : Settings) (disk : FileDiskValue) (port batch : ℕ) (opening : List Entry) (access : AccessValue) : Type 0 where
+pub record IsOpenedAccess (config : Settings) (disk : FileDiskValue) (port batch : ℕ) (opening : List Entry) (access : AccessValue) : Type 0 where
   pub topology : access.topology ≡ topology_of config
   pub sound : IsTopology access.topology
   pub served : access.server.topology ≡ topology_of config
@@ -82,7 +85,7 @@ pub record IsOpened (config : Settings) (disk : FileDiskValue) (port batch : ℕ
   pub formats : length access.formats ≡ length config.circuits
   pub reads : access.disk.reads ≤ disk.reads + 6 * length config.circuits
   pub writes : access.disk.writes ≤ disk.writes + 4 * length config.circuits
-  pub counts : access.counts ≡ none
+  pub tally : access.tally ≡ nothing_taken
   pub port_is : access.port ≡ port
   pub batch_is : access.batch ≡ batch
   pub first : access.first ≡ V4
@@ -100,13 +103,13 @@ pub record StaysSetUp (old new : AccessValue) : Type 0 where
 
 -- ---- sockets
 
--- Some sockets were tried, and nothing else changed than the counts and the history.
+-- Some sockets were tried, and nothing else changed than the tally and the history.
 pub record HasCarried (Try : Tries) (count : ℕ) (old new : AccessValue) : Type 0 where
   pub entries : List Entry
-  pub outcomes : List Fate
+  pub outcomes : List CircuitFate
   pub tried : Try entries outcomes
   pub many : length outcomes ≡ count
-  pub after : new ≡ record old { counts = counted_all outcomes old.counts; history = old.history ++ entries }
+  pub after : new ≡ record old { tally = tallied_all outcomes old.tally; history = old.history ++ entries }
 
 -- What relays and server know of the configuration, the number of regions and turns, and what the opening found, stay.
 pub record HasKept (old new : AccessValue) : Type 0 where
@@ -120,7 +123,7 @@ pub record HasKept (old new : AccessValue) : Type 0 where
 
 -- what serving changes of it
 abbrev pub serving_in : AccessValue → Serving
-serving_in a = serving a.server a.disk a.counts a.history
+serving_in a = serving a.server a.disk a.tally a.history
 
 -- The server's two sockets were tried. Each datagram that was taken is answered once: together with the others, or alone after that
 -- where an earlier one is of the same circuit.
@@ -129,13 +132,13 @@ pub record HasServed (now count : ℕ) (old new : AccessValue) : Type 0 where
   pub entries : List Entry
   pub answers : List (Result (List ℕ) Discard)
   pub saved : Serving
-  pub counts : Counts
+  pub tally : Tally
   pub history : List Entry
   pub polled : IsPolled old.batch old.first new.first entries
   pub many : count ≡ length (deliveries_in now entries)
-  pub received : AreReceived (deliveries_in now entries) answers (serving old.server old.disk old.counts (old.history ++ entries)) saved
-  pub replied : HasTried (AreReplied (deliveries_in now entries) answers count) saved.counts counts saved.history history
-  pub again : AreReceivedAgain (deliveries_in now entries) answers count (serving saved.server saved.disk counts history) (serving_in new)
+  pub received : AreReceived (deliveries_in now entries) answers (serving old.server old.disk old.tally (old.history ++ entries)) saved
+  pub replied : HasTried (AreReplied (deliveries_in now entries) (circuits_of old.server.topology (deliveries_in now entries)) answers count) saved.tally tally saved.history history
+  pub again : AreReceivedAgain (deliveries_in now entries) answers count (serving saved.server saved.disk tally history) (serving_in new)
   pub kept : HasKept old new
 
 -- ---- a turn
@@ -159,7 +162,7 @@ pub record HasTurned (now count : ℕ) (old new : AccessValue) : Type 0 where
   pub known : new.server.topology ≡ delivered.server.topology
   pub rest : new ≡ record delivered { server = new.server; history = new.history; turns = new.turns }
   pub history : new.history ≡ with_entry (Ticked now) delivered.history
-  pub counts : new.counts ≡ delivered.counts
+  pub tally : new.tally ≡ delivered.tally
   pub many : count ≡ frames + datagrams + answers
 
 -- ---- turns

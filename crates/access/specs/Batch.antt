@@ -1,34 +1,33 @@
 -- What the server makes of the datagrams that a turn takes from its sockets.
-use Rattle.std.specs.Prelude.{◌≡◌, ℕ, zero, suc, Bool, true, false, List, [], ◌∷◌, ◌++◌, Some, slice_get, Result, Ok, Err}
+use Rattle.std.specs.Prelude.{◌≡◌, ℕ, zero, suc, Bool, true, false, List, [], ◌∷◌, ◌++◌, Option, Some, None, slice_get, Result, Err}
 use Rattle.types.specs.Delivery.{DeliveryValue}
 use Rattle.types.specs.declared.discard.Discard.{Discard}
 use Rattle.types.specs.declared.discard.Discard.TheVariants.{BatchTwice}
 use Rattle.lease_disk.specs.FileDisk.{FileDiskValue, device_of}
 use Rattle.lease_disk.specs.Device.{has_failed}
 use Rattle.circuit_server.specs.Calls.{IsCalledToSave, IsCalledToSaveAt}
+use Rattle.dispatch.specs.Answers.{circuit_at, circuit_in}
 use Rattle.dispatch.specs.Batch.{IsBatch, batch_saves}
 use Rattle.dispatch.specs.Received.{Received, received, received_saves}
 use Rattle.dispatch.specs.ServerValue.{ServerValue, books_in}
 use Rattle.udp.specs.History.{Entry}
 use Rattle.udp.specs.declared.history.Role.TheVariants as role
-use Rattle.config.specs.Topology.{Topology}
 use Rattle.requests.specs.Addressee.{addressee}
-use Rattle.counts.specs.CircuitCounts.{counted_for}
-use Rattle.counts.specs.Counts.{counted, counted_all}
-use Rattle.counts.specs.declared.counts.Counts.{Counts}
+use Rattle.counts.specs.Tally.{CircuitFate, circuit_fate, tallied, tallied_all}
 use Rattle.counts.specs.declared.counts.Fate.{Fate}
-use Rattle.counts.specs.declared.counts.Fate.TheVariants as outcome
+use Rattle.counts.specs.declared.counts.Fate.TheVariants as fate
+use Rattle.counts.specs.declared.tally.Tally.{Tally}
 use Rattle.access.specs.Turn.{GoesOn, InOrder, Tries}
 
--- what serving changes: the server, its device, the counts and the history
+-- what serving changes: the server, its device, the tally and the history
 pub record Serving : Type 0 where
   pub server : ServerValue
   pub disk : FileDiskValue
-  pub counts : Counts
+  pub tally : Tally
   pub history : List Entry
 
-abbrev pub serving : ServerValue → FileDiskValue → Counts → List Entry → Serving
-serving server disk counts history = record { server = server; disk = disk; counts = counts; history = history }
+abbrev pub serving : ServerValue → FileDiskValue → Tally → List Entry → Serving
+serving server disk tally history = record { server = server; disk = disk; tally = tally; history = history }
 
 -- of which regions a save failed
 abbrev pub failed_in : Serving → Serving → ℕ → Bool
@@ -61,49 +60,40 @@ abbrev pub is_repeated : Result (List ℕ) Discard → Bool
 is_repeated (Err BatchTwice) = true
 is_repeated answer = false
 
+-- At the server a datagram is counted for the circuit that it is of, if it was dropped.
+abbrev pub circuit_if_dropped : Option ℕ → Fate → Option ℕ
+circuit_if_dropped circuit (fate.Dropped why) = circuit
+circuit_if_dropped circuit became = None
+
+abbrev pub fate_at_server : Option ℕ → Fate → CircuitFate
+fate_at_server circuit became = circuit_fate (circuit_if_dropped circuit became) became
+
 -- The answer goes from the server's socket of its protocol to where the datagram came from. To one that is repeated nothing goes,
 -- and it isn't counted yet.
-abbrev pub IsReplied : Bool → DeliveryValue → Result (List ℕ) Discard → Tries
-IsReplied true d answer entries outcomes = (entries ≡ []) × (outcomes ≡ [])
-IsReplied false d answer entries outcomes = (became : Fate) × (outcomes ≡ became ∷ []) × GoesOn (role.Server d.proto) d.source outcome.Answered answer entries became
+abbrev pub IsReplied : Bool → Option ℕ → DeliveryValue → Result (List ℕ) Discard → Tries
+IsReplied true circuit d answer entries outcomes = (entries ≡ []) × (outcomes ≡ [])
+IsReplied false circuit d answer entries outcomes =
+    (became : Fate) × (outcomes ≡ fate_at_server circuit became ∷ []) × GoesOn (role.Server d.proto) d.source fate.Answered answer entries became
 
 -- the datagram of an index is replied to
-pub record IsRepliedAt (taken : List DeliveryValue) (answers : List (Result (List ℕ) Discard)) (j : ℕ) (entries : List Entry) (outcomes : List Fate) : Type 0 where
+pub record IsRepliedAt (taken : List DeliveryValue) (circuits : List (Option ℕ)) (answers : List (Result (List ℕ) Discard)) (j : ℕ) (entries : List Entry) (outcomes : List CircuitFate) : Type 0 where
   pub its_datagram : DeliveryValue
   pub its_answer : Result (List ℕ) Discard
   pub taken_at : slice_get taken j ≡ Some its_datagram
   pub answered_at : slice_get answers j ≡ Some its_answer
-  pub replied : IsReplied (is_repeated its_answer) its_datagram its_answer entries outcomes
+  pub replied : IsReplied (is_repeated its_answer) (circuit_at circuits j) its_datagram its_answer entries outcomes
 
 -- one after the other, so many of them
-abbrev pub AreReplied : List DeliveryValue → List (Result (List ℕ) Discard) → ℕ → Tries
-AreReplied taken answers = InOrder (IsRepliedAt taken answers)
+abbrev pub AreReplied : List DeliveryValue → List (Option ℕ) → List (Result (List ℕ) Discard) → ℕ → Tries
+AreReplied taken circuits answers = InOrder (IsRepliedAt taken circuits answers)
 
--- Some sockets were tried, by the counts and the history before and after.
-pub record HasTried (Try : Tries) (before after : Counts) (old new : List Entry) : Type 0 where
+-- Some sockets were tried, by the tally and the history before and after.
+pub record HasTried (Try : Tries) (before after : Tally) (old new : List Entry) : Type 0 where
   pub entries : List Entry
-  pub outcomes : List Fate
+  pub outcomes : List CircuitFate
   pub tried : Try entries outcomes
-  pub counts : after ≡ counted_all outcomes before
+  pub tally : after ≡ tallied_all outcomes before
   pub history : new ≡ old ++ entries
-
--- ---- for each circuit
-
--- what became of a datagram, where the server dropped it, is counted for the circuit that it is of
-abbrev pub counted_if_dropped : Result ℕ Discard → Fate → List Counts → List Counts
-counted_if_dropped (Ok c) (outcome.Dropped why) counts = counted_for c (outcome.Dropped why) counts
-counted_if_dropped circuit became counts = counts
-
--- what an answer counts for its datagram's circuit; one that is repeated is counted later
-abbrev pub counted_answer : Bool → Result ℕ Discard → Result (List ℕ) Discard → List Counts → List Counts
-counted_answer true circuit answer counts = counts
-counted_answer false circuit (Ok bytes) counts = counts
-counted_answer false circuit (Err why) counts = counted_if_dropped circuit (outcome.Dropped why) counts
-
--- one answer after the other
-abbrev pub counted_answers : Topology → List DeliveryValue → List (Result (List ℕ) Discard) → List Counts → List Counts
-counted_answers topology (d ∷ taken) (answer ∷ answers) counts = counted_answers topology taken answers (counted_answer (is_repeated answer) (addressee topology d) answer counts)
-counted_answers topology taken answers counts = counts
 
 -- ---- those that are repeated
 
@@ -118,8 +108,8 @@ pub record IsAnswered (d : DeliveryValue) (old new : Serving) : Type 0 where
   pub became : Fate
   pub books : books_in new.server ≡ (made_of d old new).books
   pub calls : IsCalledToSaveAt (received_saves old.server.topology d (books_in old.server)) (device_of old.disk) (device_of new.disk)
-  pub goes_on : GoesOn (role.Server d.proto) d.source outcome.Answered (made_of d old new).answer rest became
-  pub counts : new.counts ≡ counted became old.counts
+  pub goes_on : GoesOn (role.Server d.proto) d.source fate.Answered (made_of d old new).answer rest became
+  pub tally : new.tally ≡ tallied (fate_at_server (circuit_in (addressee old.server.topology d)) became) old.tally
   pub history : new.history ≡ old.history ++ rest
   pub stays : StaysServing old new
 

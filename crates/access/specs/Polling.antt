@@ -69,12 +69,12 @@ after_tries [] p = p
 after_tries (entry ∷ entries) p = after_tries entries (after_try entry p)
 
 -- This is a try of the socket that is next.
-abbrev pub IsNext : Polling → Entry → Type 0
-IsNext p entry = (proto : Proto) × (next_of p ≡ Some proto) × (server_socket entry ≡ Some proto)
+abbrev pub IsNextTry : Polling → Entry → Type 0
+IsNextTry p entry = (proto : Proto) × (next_of p ≡ Some proto) × (server_socket entry ≡ Some proto)
 
 abbrev pub AreTries : Polling → List Entry → Type 0
 AreTries p [] = ⊤
-AreTries p (entry ∷ entries) = IsNext p entry × AreTries (after_try entry p) entries
+AreTries p (entry ∷ entries) = IsNextTry p entry × AreTries (after_try entry p) entries
 
 -- Sockets are tried until enough datagrams were taken, or none waits. The next turn tries this one first.
 pub record IsPolled (most : ℕ) (first next : Proto) (entries : List Entry) : Type 0 where

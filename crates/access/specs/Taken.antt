@@ -5,7 +5,7 @@ use Rattle.types.specs.declared.dest.Proto.{Proto}
 use Rattle.udp.specs.History.{Entry}
 use Rattle.udp.specs.declared.datagram_socket.Attempt.{Attempt}
 use Rattle.udp.specs.declared.datagram_socket.Attempt.TheVariants as attempt
-use Rattle.access.specs.Polling.{IsNext, IsPolled, after_take, after_try, deliveries_in, with_waiting}
+use Rattle.access.specs.Polling.{IsNextTry, IsPolled, after_take, after_try, deliveries_in, with_waiting}
 use Rattle.access.specs.declared.datagrams.Datagram.{Datagram}
 use Rattle.access.specs.declared.polling.Polling.{Polling}
 use Rattle.access.specs.declared.polling.Waiting.TheVariants as waiting
@@ -41,7 +41,7 @@ after_attempt proto attempt.Failed p = with_waiting proto waiting.Lost p
 -- One of the server's sockets was tried.
 pub record HasTriedNext (proto : Proto) (before after : Polling) (taken more : List Datagram) (old new : List Entry) : Type 0 where
   pub entry : Entry
-  pub next : IsNext before entry
+  pub next : IsNextTry before entry
   pub state : after ≡ after_try entry before
   pub history : new ≡ old ++ entry ∷ []
   pub datagrams : (now : ℕ) → all_delivered now more ≡ all_delivered now taken ++ deliveries_in now (entry ∷ [])

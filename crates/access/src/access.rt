@@ -1,8 +1,9 @@
 //! Relay and server over sockets.
-ghost use Rattle.std.specs.Prelude.{◌≡◌, ◌≤◌, ◌<◌, ◌+◌, ◌↔◌, ℕ, [], length, map, true, is_some, Some, slice_get, Err, IfOk, IfErr};
+ghost use Rattle.std.specs.Prelude.{◌≡◌, ◌≤◌, ◌<◌, ◌+◌, ◌↔◌, ℕ, [], length, map, true};
+ghost use Rattle.std.specs.Prelude.{is_some, Some, slice_get, Err, IfOk, IfErr};
 ghost use Rattle.access.specs.Access.{HasCarried, HasCounted, HasReached, HasServed, HasServedTurns, HasTurned};
-ghost use Rattle.access.specs.Access.{IsOpened, RefusesSocket, StayClosed, StaysSetUp, books_at};
-ghost use Rattle.counts.specs.Counts.{more_by, none};
+ghost use Rattle.access.specs.Access.{IsOpenedAccess, RefusesSocket, StayClosed, StaysSetUp, books_at};
+ghost use Rattle.counts.specs.Counts.{more_by};
 ghost use Rattle.opening.specs.Opening.{found_format, was_old};
 ghost use Rattle.sockets.specs.Sockets.{IsSocket, Refuses, WasRefused};
 ghost use Rattle.access.specs.Opened.{AreSocketsOf, IsEngine};
@@ -19,7 +20,7 @@ use crate::batch::Batch;
 use crate::clock::moment;
 use crate::sending::send_on;
 use config::Config;
-use counts::{CircuitCounts, Counts, Fate};
+use counts::{CircuitCounts, Counts, Fate, Tally};
 use dispatch::{OpenFault, Server};
 use lease_disk::{FORMAT, FileDisk, OLD_FORMAT};
 use opening::{Formats, open_server};
@@ -97,9 +98,9 @@ pub struct Access {
     batch: Batch,
     /// The first of the circuits' ports.
     port: u16,
-    counts: Counts,
-    /// What became of those of each circuit: of frames from it, of datagrams of it that the server dropped, and of answers to it.
-    by_circuit: CircuitCounts,
+    /// What became of the datagrams that were taken. A circuit's are the frames from it, the datagrams of it that the server
+    /// dropped, and the answers to it.
+    tally: Tally,
     history: History,
     turns: Count,
     /// What waits until one of the sockets has a datagram.
@@ -121,7 +122,7 @@ impl Model for Access {
               a.port;
           batch = a.batch.most;
           first = a.batch.first;
-          counts = a.counts;
+          tally = a.tally;
           history = a.history.entries;
           turns =
               a.turns.count;
@@ -230,7 +231,7 @@ impl Access {
         requires most { port ≤ 65472 }
         requires some { 1 ≤ batch }
         requires few { batch ≤ 16 }
-        ensures opened { IfOk result (IsOpened config.now disk port batch opening.old.entries) }
+        ensures opened { IfOk result (IsOpenedAccess config.now disk port batch opening.old.entries) }
         ensures circuits { result ≡ Err fault.TooManyCircuits ↔ (16 < length config.now.circuits) }
         ensures small { IfErr result (λ why. why ≡ fault.Disk → ¬ HasRegions (parts_of config.now) disk.regions) }
         ensures socket { IfErr result (RefusesSocket (λ at.
@@ -262,8 +263,7 @@ impl Access {
             out: PacketBuf::new(),
             batch: Batch::new(usize::from(batch)),
             port,
-            counts: Counts::new(),
-            by_circuit: CircuitCounts::new(),
+            tally: Tally::new(),
             // the sockets were bound with it
             history: mem::replace(opening, History::new()),
             turns: Count::new(),
@@ -299,8 +299,8 @@ impl Access {
         ensures turned { HasTurned now result self.old self.new }
         ensures set_up { StaysSetUp self.old self.new }
         ensures turns { self.new.turns ≡ self.old.turns + 1 }
-        ensures counts { HasCounted result self.old.counts self.new.counts }
-        ensures received { self.new.counts.received ≡ more_by result self.old.counts.received }
+        ensures counts { HasCounted result self.old.tally.all self.new.tally.all }
+        ensures received { self.new.tally.all.received ≡ more_by result self.old.tally.all.received }
         ensures quiet { result ≡ 0 → books_in self.new.server ≡ books_at now (books_in self.old.server) }
         ensures closed { StayClosed self.old.server self.new.server }
         ensures clocks { HasReached now self.new.server }
@@ -355,15 +355,17 @@ impl Access {
 
     /// What became of the datagrams that were taken.
     pub fn counts(&self) -> &Counts
-        ensures { result.now ≡ self.now.counts }
+        ensures { result.now ≡ self.now.tally.all }
     {
-        &self.counts
+        &self.tally.all
     }
 
     /// What became of the datagrams of each circuit: the frames that it sent, what the server dropped of it, and what a relay
     /// sent it.
-    pub fn by_circuit(&self) -> &CircuitCounts {
-        &self.by_circuit
+    pub fn by_circuit(&self) -> &CircuitCounts
+        ensures { result.now ≡ self.now.tally.by_circuit }
+    {
+        &self.tally.by_circuit
     }
 
     /// Takes a frame from each of the circuits' sockets to its relay.
@@ -431,10 +433,9 @@ impl Access {
         let made = self.relays.up(circuit, proto, frame, &mut self.out);
         let from = &self.sockets.relays[self.sockets.circuits[index].relay];
         let out = self.out.as_slice();
-        let outcome = send_on(made, from, to, out, Fate::Relayed, &mut self.history);
+        let became = send_on(made, from, to, out, Fate::Relayed, &mut self.history);
         self.waiter.mark_ready(self.sockets.server(proto));
-        self.counts.count(outcome);
-        self.by_circuit.count_for(index, outcome);
+        self.tally.count(Some(circuit), became);
         1
     }
 
@@ -443,15 +444,13 @@ impl Access {
         ensures most { result ≤ self.old.batch }
         ensures served { HasServed now result self.old self.new }
     {
-        let (sockets, counts, history) = (&self.sockets, &mut self.counts, &mut self.history);
+        let (sockets, tally, history) = (&self.sockets, &mut self.tally, &mut self.history);
         let (server, disk) = (&mut self.server, &mut self.disk);
         self.batch.poll(sockets, &mut self.waiter, history);
         self.batch.receive(now, server, disk);
-        let by_circuit = &mut self.by_circuit;
+        self.batch.reply(sockets, tally, history);
         self.batch
-            .reply(sockets, server, counts, by_circuit, history);
-        self.batch
-            .receive_again(now, sockets, server, disk, counts, by_circuit, history);
+            .receive_again(now, sockets, server, disk, tally, history);
         expect_answers(&self.batch, &sockets.relays, &mut self.waiter);
         self.batch.len() as u32
     }
@@ -481,7 +480,7 @@ impl Access {
         };
         let datagram = &self.buffer[..len];
         let relay = RelayNo::at(index);
-        let outcome = match self.relays.down(relay, from, datagram, &mut self.out) {
+        match self.relays.down(relay, from, datagram, &mut self.out) {
             Ok(sent) => {
                 let frame = self.out.framed();
                 put_front(&sent.1, frame);
@@ -489,13 +488,11 @@ impl Access {
                 let from = self.sockets.circuits[sent.0.index()].socket(proto);
                 let to = client(self.port, sent.0, proto);
                 let (made, bytes) = (Ok(()), frame.as_slice());
-                let outcome = send_on(made, from, to, bytes, Fate::Delivered, &mut self.history);
-                self.by_circuit.count_for(sent.0.index(), outcome);
-                outcome
+                let became = send_on(made, from, to, bytes, Fate::Delivered, &mut self.history);
+                self.tally.count(Some(sent.0), became);
             }
-            Err(why) => Fate::Dropped(why),
-        };
-        self.counts.count(outcome);
+            Err(why) => self.tally.count(None, Fate::Dropped(why)),
+        }
         1
     }
 }

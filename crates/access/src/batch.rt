@@ -1,13 +1,13 @@
 //! The datagrams that the server takes in a turn: received together, and answered one after the other.
 ghost use Rattle.std.specs.Prelude.{◌≡◌, ◌≤◌, ◌+◌, ℕ, List, All, length, map, min, take, Some};
 ghost use Rattle.access.specs.Batch.{AreReceived, AreReceivedAgain, AreReplied, HasTried};
-ghost use Rattle.access.specs.Batch.{counted_answers, counted_if_dropped, is_repeated, serving};
+ghost use Rattle.access.specs.Batch.{is_repeated, fate_at_server, serving};
 ghost use Rattle.access.specs.Taken.{AreBoundFor, HasTaken, all_delivered, delivered};
-ghost use Rattle.counts.specs.Counts.{counted};
-ghost use Rattle.counts.specs.declared.counts.Counts as total;
+ghost use Rattle.counts.specs.Tally.{tallied};
+ghost use Rattle.counts.specs.declared.tally.Tally as total;
 ghost use Rattle.dispatch.specs.Answers.{answer_of};
+ghost use Rattle.dispatch.specs.Batch.{circuits_of};
 ghost use Rattle.dispatch.specs.Regions.{HasRegions};
-ghost use Rattle.requests.specs.Addressee.{addressee};
 ghost use Rattle.sockets.specs.Sockets.{IsBound};
 ghost use Rattle.types.specs.Delivery.{delivery};
 ghost use Rattle.udp.specs.History as entry;
@@ -15,11 +15,11 @@ ghost use Rattle.udp.specs.History as entry;
 use crate::datagrams::{Datagram, Datagrams};
 use crate::polling::{Polling, Waiting};
 use crate::sending::send_on;
-use counts::{CircuitCounts, Counts, Fate};
+use counts::{Fate, Tally};
 use dispatch::{Answer, BatchAnswers, Server};
 use lease_disk::FileDisk;
 use sockets::Sockets;
-use types::{Delivery, Discard, MAX_BATCH, Moment, Proto, Source};
+use types::{Circuit, Discard, MAX_BATCH, Moment, Proto, Source};
 use udp::{History, Waiter};
 use wire::PacketBuf;
 
@@ -83,10 +83,11 @@ impl Batch {
         requires few { length self.old.taken ≤ 16 }
         requires regions { HasRegions server.old.topology.circuits disk.old.regions }
         ensures rest { self.new ≡ record self.old { answers = self.new.answers } }
-        ensures count { length self.new.answers ≡ length self.old.taken }
-        ensures received { (counts : total.Counts) (history : List entry.Entry)
-            → AreReceived (all_delivered now self.old.taken) self.new.answers
-            (serving server.old disk.old counts history) (serving server.new disk.new counts history) }
+        ensures count { length self.new.answers.answers ≡ length self.old.taken }
+        ensures circuits { self.new.answers.circuits ≡ circuits_of server.old.topology (all_delivered now self.old.taken) }
+        ensures received { (tally : total.Tally) (history : List entry.Entry)
+            → AreReceived (all_delivered now self.old.taken) self.new.answers.answers
+            (serving server.old disk.old tally history) (serving server.new disk.new tally history) }
     {
         self.answers.clear();
         let taken = self.taken.as_slice();
@@ -106,22 +107,12 @@ impl Batch {
 
     /// Sends the replies, each from the server's socket to where its datagram came from, and counts what became of those. What is
     /// repeated is left for `receive_again`. It ends at the first datagram that has no answer.
-    pub(crate) fn reply(
-        &self,
-        sockets: &Sockets,
-        server: &Server,
-        counts: &mut Counts,
-        by_circuit: &mut CircuitCounts,
-        history: &mut History,
-    )
+    pub(crate) fn reply(&self, sockets: &Sockets, tally: &mut Tally, history: &mut History)
         requires bound { AreBoundFor sockets.now history.old.id }
         ensures same { history.new.id ≡ history.old.id }
-        ensures circuits { by_circuit.new.circuits
-            ≡ counted_answers server.now.topology (all_delivered 0 self.now.taken) self.now.answers
-            by_circuit.old.circuits }
         ensures replied { (now : ℕ)
-            → HasTried (AreReplied (all_delivered now self.now.taken) self.now.answers
-            (min (length self.now.taken) (length self.now.answers))) counts.old counts.new history.old.entries
+            → HasTried (AreReplied (all_delivered now self.now.taken) self.now.answers.circuits self.now.answers.answers
+            (min (length self.now.taken) (length self.now.answers.answers))) tally.old tally.new history.old.entries
             history.new.entries }
     {
         let taken = self.taken.as_slice();
@@ -132,15 +123,12 @@ impl Batch {
             let again = is_repeated(answer);
             if !again {
                 let datagram = &taken[index];
-                let socket = sockets.server(datagram.proto);
-                let outcome = match answer.reply() {
-                    Ok(reply) => {
-                        let sent = socket.send(reply.as_slice(), datagram.source, history);
-                        Fate::Answered.if_sent(sent)
-                    }
+                let (socket, to) = (sockets.server(datagram.proto), datagram.source);
+                let became = match answer.reply() {
+                    Ok(reply) => Fate::Answered.if_sent(socket.send(reply.as_slice(), to, history)),
                     Err(why) => Fate::Dropped(why),
                 };
-                count_at_server(datagram, outcome, server, counts, by_circuit);
+                count_at_server(self.answers.circuit(index), became, tally);
             }
         }
     }
@@ -152,17 +140,17 @@ impl Batch {
         sockets: &Sockets,
         server: &mut Server,
         disk: &mut FileDisk,
-        counts: &mut Counts,
-        by_circuit: &mut CircuitCounts,
+        tally: &mut Tally,
         history: &mut History,
     )
-        requires count { length self.now.answers ≡ length self.now.taken }
+        requires count { length self.now.answers.answers ≡ length self.now.taken }
+        requires circuits { self.now.answers.circuits ≡ circuits_of server.old.topology (all_delivered now self.now.taken) }
         requires regions { HasRegions server.old.topology.circuits disk.old.regions }
         requires bound { AreBoundFor sockets.now history.old.id }
         ensures same { history.new.id ≡ history.old.id }
-        ensures again { AreReceivedAgain (all_delivered now self.now.taken) self.now.answers (length self.now.taken)
-            (serving server.old disk.old counts.old history.old.entries)
-            (serving server.new disk.new counts.new history.new.entries) }
+        ensures again { AreReceivedAgain (all_delivered now self.now.taken) self.now.answers.answers
+            (length self.now.taken) (serving server.old disk.old tally.old history.old.entries)
+            (serving server.new disk.new tally.new history.new.entries) }
     {
         let taken = self.taken.as_slice();
         'parts: for index in 0..taken.len() {
@@ -177,8 +165,8 @@ impl Batch {
                 let (proto, from, bytes) = (datagram.proto, datagram.source, datagram.bytes());
                 let made = server.receive(proto, from, bytes, now, disk, &mut out);
                 let reply = out.as_slice();
-                let outcome = send_on(made, socket, from, reply, Fate::Answered, history);
-                count_at_server(datagram, outcome, server, counts, by_circuit);
+                let became = send_on(made, socket, from, reply, Fate::Answered, history);
+                count_at_server(self.answers.circuit(index), became, tally);
             }
         }
     }
@@ -207,28 +195,12 @@ fn is_repeated(answer: &Answer) -> bool
 }
 
 /// Counts what became of a datagram at the server, and for the circuit that it is of too, if it is of one and was dropped.
-fn count_at_server(
-    datagram: &Datagram,
-    became: Fate,
-    server: &Server,
-    counts: &mut Counts,
-    by_circuit: &mut CircuitCounts,
-)
-    requires fits { datagram.now.len ≤ 1281 }
-    ensures counted { counts.new ≡ counted became counts.old }
-    ensures circuit { by_circuit.new.circuits
-        ≡ counted_if_dropped (addressee server.now.topology (delivered 0 datagram.now)) became by_circuit.old.circuits }
+fn count_at_server(circuit: Option<Circuit>, became: Fate, tally: &mut Tally)
+    ensures { tally.new ≡ tallied (fate_at_server circuit became) tally.old }
 {
-    counts.count(became);
-    let delivery = Delivery {
-        proto: datagram.proto,
-        source: datagram.source,
-        moment: Moment::first(),
-        bytes: datagram.bytes(),
+    let circuit = match became {
+        Fate::Dropped(_) => circuit,
+        _ => None,
     };
-    if matches!(became, Fate::Dropped(_))
-        && let Ok(circuit) = server.addressee(&delivery)
-    {
-        by_circuit.count_for(circuit.index(), became);
-    }
+    tally.count(circuit, became);
 }

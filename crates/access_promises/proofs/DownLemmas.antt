@@ -15,7 +15,7 @@ use Rattle.relay.proofs.AllLemmas as relays
 use Rattle.sockets.specs.Sockets as sockets
 use Rattle.udp.specs.History.{Entry, Took, Failed, Empty, Sent, Ticked, Refused, Read}
 use Rattle.udp.specs.declared.history.Role.TheVariants.{Circuit, Server, Relay}
-use Rattle.counts.specs.declared.counts.Fate.{Fate}
+use Rattle.counts.specs.Tally.{CircuitFate}
 use Rattle.access.specs.Turn.{InOrder, IsSentDown, RelaySocket}
 use Rattle.access_promises.specs.Alone.{GoesToItsClients, frame_alone, packet_of}
 use Rattle.access_promises.specs.Own.{Packet, datagrams_in, is_for, own_datagram, packet, sent_down, sent_in}
@@ -100,19 +100,19 @@ module _ (topology : Topology) (port : ℕ) where
         sym (ap (λ (o : Option Proto). filter_map (frame_alone part) (cons_option (option_map (λ (proto : Proto). packet proto bytes) o) [])) its.1
         ∙ ap (λ (m : Result SentFrame Discard). cons_option (option_map packet_of (result_ok m)) []) made)
 
-    down_datagram : (made : Result CircuitFrame Discard) → relayed_down_in topology r from bytes ≡ made → (rest : List Entry) (became : Fate) → IsSentDown port made rest became → AreDown (took ∷ rest)
-    down_datagram (Err why) came rest became sent = subst (λ es. AreDown (took ∷ es)) (sym sent.0) (record {
+    down_datagram : (made : Result CircuitFrame Discard) → relayed_down_in topology r from bytes ≡ made → (rest : List Entry) (outcome : CircuitFate) → IsSentDown port made rest outcome → AreDown (took ∷ rest)
+    down_datagram (Err why) came rest outcome sent = subst (λ es. AreDown (took ∷ es)) (sym sent.0) (record {
       own = λ c part there. sym (ap (λ m. filter_map (frame_alone part) (cons_option (own_so c m) [])) came);
       ports = All-cons (GoesToItsClients port) took [] tt no_ports;
     })
-    down_datagram (Ok frame) came rest became sent = subst (λ es. AreDown (took ∷ es)) (sym sent.1) (record {
+    down_datagram (Ok frame) came rest outcome (sent, its) = subst (λ es. AreDown (took ∷ es)) (sym sent.1) (record {
       own = λ c part there. down_own c part frame there came (frame.circuit == c) refl ∙ sym (ap (λ m. filter_map (frame_alone part) (cons_option (own_so c m) [])) came);
       ports = All-cons (GoesToItsClients port) took
           (Sent (Circuit frame.circuit (sockets.proto_of frame.frame.dest)) (sockets.client_port port frame.circuit (sockets.proto_of frame.frame.dest)) (sockets.framed frame.frame.dest frame.frame.bytes) sent.0 ∷ []) tt
           (All-cons (GoesToItsClients port) (Sent (Circuit frame.circuit (sockets.proto_of frame.frame.dest)) (sockets.client_port port frame.circuit (sockets.proto_of frame.frame.dest)) (sockets.framed frame.frame.dest frame.frame.bytes) sent.0) [] refl no_ports);
     })
 
-  down_tried : (r : ℕ) (entries : List Entry) (outcomes : List Fate) → RelaySocket topology port r entries outcomes → AreDown entries
+  down_tried : (r : ℕ) (entries : List Entry) (outcomes : List CircuitFate) → RelaySocket topology port r entries outcomes → AreDown entries
   down_tried r entries outcomes (inl idle) = by idle.0 where
     by : (entries ≡ Empty (Relay r) ∷ []) ⊎ (entries ≡ Failed (Relay r) ∷ []) → AreDown entries
     by (inl is) = subst AreDown (sym is) (record { own = λ c part there. refl; ports = All-cons (GoesToItsClients port) (Empty (Relay r)) [] tt no_ports })
@@ -120,7 +120,7 @@ module _ (topology : Topology) (port : ℕ) where
   down_tried r entries outcomes (inr taken) =
       subst AreDown (sym taken.entries_are) (down_datagram r taken.from taken.bytes (relayed_down_in topology r taken.from taken.bytes) refl taken.rest taken.outcome taken.made)
 
-  down_ordered : (m : ℕ) (entries : List Entry) (outcomes : List Fate) → InOrder (RelaySocket topology port) m entries outcomes → AreDown entries
+  down_ordered : (m : ℕ) (entries : List Entry) (outcomes : List CircuitFate) → InOrder (RelaySocket topology port) m entries outcomes → AreDown entries
   down_ordered zero entries outcomes none = subst AreDown (sym none.0) down_none
   down_ordered (suc m) entries outcomes both =
       subst AreDown (sym both.entries_are) (down_more both.before both.after (down_ordered m both.before both.done both.one) (down_tried m both.after both.more both.other))

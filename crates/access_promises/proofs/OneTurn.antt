@@ -7,6 +7,7 @@ use Rattle.config.specs.CircuitPart.{CircuitPart}
 use Rattle.config.specs.Topology.{Topology}
 use Rattle.circuit_server.specs.CircuitServerValue.{OpenCircuitValue, server_book}
 use Rattle.circuit_server.specs.Server.{Book}
+use Rattle.dispatch.specs.Batch.{circuits_of}
 use Rattle.dispatch.specs.ServerValue.{ServerValue, books_in, with_states}
 use Rattle.udp.specs.History.{Entry, Read, Ticked}
 use Rattle.access.specs.Access.{AccessValue, HasServed, HasTurned, HasTurnedOnce, books_at, serving_in}
@@ -53,11 +54,11 @@ pub record IsOneTurn (topology : Topology) (port : ℕ) (old new : AccessValue) 
   pub books : books_in new.server ≡ books_at now middle
 
 serves_once : (now count : ℕ) (old new : AccessValue) → (served : HasServed now count old new)
-    → Serves old.server.topology (deliveries_in now served.entries) (serving old.server old.disk old.counts (old.history ++ served.entries)) (serving_in new)
+    → Serves old.server.topology (deliveries_in now served.entries) (serving old.server old.disk old.tally (old.history ++ served.entries)) (serving_in new)
 serves_once now count old new served =
-    serves_by (deliveries_in now served.entries) served.answers (serving old.server old.disk old.counts (old.history ++ served.entries)) served.saved (serving_in new) served.counts served.history served.received
-    (subst (λ n. HasTried (AreReplied (deliveries_in now served.entries) served.answers n) served.saved.counts served.counts served.saved.history served.history) served.many served.replied)
-    (subst (λ n. AreReceivedAgain (deliveries_in now served.entries) served.answers n (serving served.saved.server served.saved.disk served.counts served.history) (serving_in new)) served.many served.again)
+    serves_by (deliveries_in now served.entries) (circuits_of old.server.topology (deliveries_in now served.entries)) served.answers (serving old.server old.disk old.tally (old.history ++ served.entries)) served.saved (serving_in new) served.tally served.history served.received
+    (subst (λ n. HasTried (AreReplied (deliveries_in now served.entries) (circuits_of old.server.topology (deliveries_in now served.entries)) served.answers n) served.saved.tally served.tally served.saved.history served.history) served.many served.replied)
+    (subst (λ n. AreReceivedAgain (deliveries_in now served.entries) served.answers n (serving served.saved.server served.saved.disk served.tally served.history) (serving_in new)) served.many served.again)
 
 pub one_turn : (before now : ℕ) (old new : AccessValue) → old.server.topology ≡ old.topology → HasTurnedOnce before now old new → IsOneTurn old.topology old.port old new
 one_turn before now old new known once = record {
@@ -100,6 +101,6 @@ one_turn before now old new known once = record {
   server_stays : t.relayed.server ≡ old.server
   server_stays = ap (λ (a : AccessValue). a.server) t.from_circuits.after ∙ ap (λ (a : AccessValue). a.server) once.rest
 
-  serves : Serves old.topology (deliveries_in now t.at_server.entries) (serving t.relayed.server t.relayed.disk t.relayed.counts (t.relayed.history ++ t.at_server.entries)) (serving_in t.served)
-  serves = subst (λ top. Serves top (deliveries_in now t.at_server.entries) (serving t.relayed.server t.relayed.disk t.relayed.counts (t.relayed.history ++ t.at_server.entries)) (serving_in t.served))
+  serves : Serves old.topology (deliveries_in now t.at_server.entries) (serving t.relayed.server t.relayed.disk t.relayed.tally (t.relayed.history ++ t.at_server.entries)) (serving_in t.served)
+  serves = subst (λ top. Serves top (deliveries_in now t.at_server.entries) (serving t.relayed.server t.relayed.disk t.relayed.tally (t.relayed.history ++ t.at_server.entries)) (serving_in t.served))
       (ap (λ (s : ServerValue). s.topology) server_stays ∙ known) (serves_once now t.datagrams t.relayed t.served t.at_server)

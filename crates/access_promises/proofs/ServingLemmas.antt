@@ -11,14 +11,15 @@ use Rattle.types.specs.Delivery.{DeliveryValue}
 use Rattle.config.specs.CircuitPart.{CircuitPart}
 use Rattle.config.specs.Topology.{Topology}
 use Rattle.circuit_server.specs.Server.{Book}
+use Rattle.dispatch.specs.Answers.{circuit_at}
 use Rattle.dispatch.specs.Batch.{comes_again, part_received}
 use Rattle.dispatch.specs.ServerValue.{books_in}
 use Rattle.udp.specs.History.{Entry}
 use Rattle.udp.specs.declared.history.Role.TheVariants as role
-use Rattle.counts.specs.Counts.{counted_all}
-use Rattle.counts.specs.declared.counts.Counts.{Counts}
+use Rattle.counts.specs.Tally.{CircuitFate, tallied_all}
 use Rattle.counts.specs.declared.counts.Fate.{Fate}
-use Rattle.counts.specs.declared.counts.Fate.TheVariants as outcome
+use Rattle.counts.specs.declared.counts.Fate.TheVariants as fate
+use Rattle.counts.specs.declared.tally.Tally.{Tally}
 use Rattle.access.specs.Batch.{AreReceived, AreReceivedAgain, AreReplied, HasTried, IsAnswered, IsReceived, IsReceivedAgain, IsReplied, Serving, failed_in, is_repeated, made_of, serving}
 use Rattle.access.specs.Turn.{GoesOn}
 use Rattle.access_promises.specs.Exchanges.{Exchange, DropsStray, reply_of}
@@ -83,20 +84,20 @@ sent_then xs ys one two first second = record {
 }
 
 -- an answer goes on, or there is none
-pub answer_sent : (x : Exchange) (entries : List Entry) (became : Fate) (a : Answer) → x.answer ≡ a → GoesOn (role.Server x.datagram.proto) x.datagram.source outcome.Answered a entries became
+pub answer_sent : (x : Exchange) (entries : List Entry) (became : Fate) (a : Answer) → x.answer ≡ a → GoesOn (role.Server x.datagram.proto) x.datagram.source fate.Answered a entries became
     → AreSent (x ∷ []) entries
 answer_sent x entries became (Err why) is goes = subst (AreSent (x ∷ [])) (sym goes.0) (record { replies = ap (λ a. filter_map reply_of (record x { answer = a } ∷ [])) (sym is); kinds = tt })
 answer_sent x entries became (Ok bytes) is goes = subst (AreSent (x ∷ [])) (sym goes.1) (record { replies = ap (λ a. filter_map reply_of (record x { answer = a } ∷ [])) (sym is); kinds = (refl, tt) })
 
-module _ (topology : Topology) (fails : ℕ → Bool) (old : List (Option Book)) (taken : List DeliveryValue) (answers : List Answer) where
+module _ (topology : Topology) (fails : ℕ → Bool) (old : List (Option Book)) (taken : List DeliveryValue) (circuits : List (Option ℕ)) (answers : List Answer) where
   abbrev mades : List Pair → List Exchange
   mades = made topology fails old
 
-  replied_one : (d : DeliveryValue) (a : Answer) (repeated : Bool) (entries : List Entry) (outcomes : List Fate) → IsReplied repeated d a entries outcomes → AreSent (mades (cond repeated [] ((d, a) ∷ []))) entries
-  replied_one d a true entries outcomes goes = sent_none entries goes.0
-  replied_one d a false entries outcomes goes = answer_sent (exchange topology fails d a) entries goes.0 a refl goes.2
+  replied_one : (circuit : Option ℕ) (d : DeliveryValue) (a : Answer) (repeated : Bool) (entries : List Entry) (outcomes : List CircuitFate) → IsReplied repeated circuit d a entries outcomes → AreSent (mades (cond repeated [] ((d, a) ∷ []))) entries
+  replied_one circuit d a true entries outcomes goes = sent_none entries goes.0
+  replied_one circuit d a false entries outcomes goes = answer_sent (exchange topology fails d a) entries goes.0 a refl goes.2
 
-  replied_all : (n : ℕ) (entries : List Entry) (outcomes : List Fate) → AreReplied taken answers n entries outcomes → AreSent (mades (firsts (take n taken) (take n answers))) entries
+  replied_all : (n : ℕ) (entries : List Entry) (outcomes : List CircuitFate) → AreReplied taken circuits answers n entries outcomes → AreSent (mades (firsts (take n taken) (take n answers))) entries
   replied_all zero entries outcomes goes = sent_none entries goes.0
   replied_all (suc n) entries outcomes goes =
       let one = goes.other in
@@ -105,7 +106,7 @@ module _ (topology : Topology) (fails : ℕ → Bool) (old : List (Option Book))
       (sym (map-append (λ (p : Pair). exchange topology fails p.0 p.1) (firsts (take n taken) (take n answers)) (first_of one.its_datagram one.its_answer))
       ∙ ap mades (sym (firsts_more n taken answers one.its_datagram one.its_answer one.taken_at one.answered_at)))
       (sent_then (mades (firsts (take n taken) (take n answers))) (mades (first_of one.its_datagram one.its_answer)) goes.before goes.after
-      (replied_all n goes.before goes.done goes.one) (replied_one one.its_datagram one.its_answer (is_repeated one.its_answer) goes.after goes.more one.replied)))
+      (replied_all n goes.before goes.done goes.one) (replied_one (circuit_at circuits n) one.its_datagram one.its_answer (is_repeated one.its_answer) goes.after goes.more one.replied)))
 
 -- ---- those that are received again
 
@@ -163,10 +164,10 @@ made_datagrams topology fails old [] = refl
 made_datagrams topology fails old (p ∷ ps) = ap (λ ds. p.0 ∷ ds) (made_datagrams topology fails old ps)
 
 -- the first datagrams of the circuits, and the replies to them
-together : (taken : List DeliveryValue) (answers : List Answer) (s saved : Serving) (counts : Counts) (history : List Entry) → IsReceived taken answers s saved
-    → HasTried (AreReplied taken answers (length taken)) saved.counts counts saved.history history
-    → Serves s.server.topology (datagrams_of (firsts taken answers)) s (serving saved.server saved.disk counts history)
-together taken answers s saved counts history received replied = record {
+together : (taken : List DeliveryValue) (circuits : List (Option ℕ)) (answers : List Answer) (s saved : Serving) (tally : Tally) (history : List Entry) → IsReceived taken answers s saved
+    → HasTried (AreReplied taken circuits answers (length taken)) saved.tally tally saved.history history
+    → Serves s.server.topology (datagrams_of (firsts taken answers)) s (serving saved.server saved.disk tally history)
+together taken circuits answers s saved tally history received replied = record {
   its = received.stays.topology;
   entries = replied.entries;
   history = replied.history ∙ ap (λ (u : Serving). u.history ++ replied.entries) received.rest;
@@ -186,7 +187,7 @@ together taken answers s saved counts history received replied = record {
 
   sent : AreSent (made s.server.topology (failed_in s saved) (books_in s.server) (firsts taken answers)) replied.entries
   sent = subst (λ ps. AreSent (made s.server.topology (failed_in s saved) (books_in s.server) ps) replied.entries) all_of_them
-      (replied_all s.server.topology (failed_in s saved) (books_in s.server) taken answers (length taken) replied.entries replied.outcomes replied.tried)
+      (replied_all s.server.topology (failed_in s saved) (books_in s.server) taken circuits answers (length taken) replied.entries replied.outcomes replied.tried)
 
 -- ---- all of a turn
 
@@ -217,29 +218,29 @@ reordered topology ds es s t serves moved same = record {
       subst (λ own. HasServedOwn topology c part (map Receive own) serves.exchanges (books_in s.server) (books_in t.server) before) (same c part before there at) (serves.each c part before there at);
 }
 
-in_order : (taken : List DeliveryValue) (answers : List Answer) (s saved t : Serving) (counts : Counts) (history : List Entry) → IsReceived taken answers s saved
-    → HasTried (AreReplied taken answers (length taken)) saved.counts counts saved.history history
-    → AreReceivedAgain taken answers (length taken) (serving saved.server saved.disk counts history) t
+in_order : (taken : List DeliveryValue) (circuits : List (Option ℕ)) (answers : List Answer) (s saved t : Serving) (tally : Tally) (history : List Entry) → IsReceived taken answers s saved
+    → HasTried (AreReplied taken circuits answers (length taken)) saved.tally tally saved.history history
+    → AreReceivedAgain taken answers (length taken) (serving saved.server saved.disk tally history) t
     → Serves s.server.topology taken s t
-in_order taken answers s saved t counts history received replied again =
+in_order taken circuits answers s saved t tally history received replied again =
     reordered s.server.topology (datagrams_of (firsts taken answers) ++ repeats taken answers) taken s t
-    (serves_then s.server.topology (datagrams_of (firsts taken answers)) (repeats taken answers) s (serving saved.server saved.disk counts history) t
-    (together taken answers s saved counts history received replied)
-    (subst (λ ds. Serves s.server.topology ds (serving saved.server saved.disk counts history) t)
+    (serves_then s.server.topology (datagrams_of (firsts taken answers)) (repeats taken answers) s (serving saved.server saved.disk tally history) t
+    (together taken circuits answers s saved tally history received replied)
+    (subst (λ ds. Serves s.server.topology ds (serving saved.server saved.disk tally history) t)
     (ap₂ repeats (take_whole taken) (ap (λ n. take n answers) (sym received.batch.count) ∙ take_whole answers))
-    (again_all s.server.topology taken answers (length taken) (serving saved.server saved.disk counts history) t received.stays.topology again)))
+    (again_all s.server.topology taken answers (length taken) (serving saved.server saved.disk tally history) t received.stays.topology again)))
     (split taken answers received.batch.count)
     (λ c part before there at.
     let first = batch_firsts s.server.topology (failed_in s saved) (books_in s.server) c part there taken (books_in saved.server) answers received.batch before at in
     filter-append (is_own s.server.topology c) (datagrams_of (firsts taken answers)) (repeats taken answers) ∙ first.order)
 
-pub serves_by : (taken : List DeliveryValue) (answers : List Answer) (s saved t : Serving) (counts : Counts) (history : List Entry) → AreReceived taken answers s saved
-    → HasTried (AreReplied taken answers (length taken)) saved.counts counts saved.history history
-    → AreReceivedAgain taken answers (length taken) (serving saved.server saved.disk counts history) t
+pub serves_by : (taken : List DeliveryValue) (circuits : List (Option ℕ)) (answers : List Answer) (s saved t : Serving) (tally : Tally) (history : List Entry) → AreReceived taken answers s saved
+    → HasTried (AreReplied taken circuits answers (length taken)) saved.tally tally saved.history history
+    → AreReceivedAgain taken answers (length taken) (serving saved.server saved.disk tally history) t
     → Serves s.server.topology taken s t
-serves_by [] answers s saved t counts history same replied again =
-    let whole : t ≡ serving saved.server saved.disk counts history = again in
-    let counted : counts ≡ saved.counts = replied.counts ∙ ap (λ os. counted_all os saved.counts) replied.tried.1 in
+serves_by [] circuits answers s saved t tally history same replied again =
+    let whole : t ≡ serving saved.server saved.disk tally history = again in
+    let counted : tally ≡ saved.tally = replied.tally ∙ ap (λ os. tallied_all os saved.tally) replied.tried.1 in
     let grown : history ≡ saved.history = replied.history ∙ (ap (λ es. saved.history ++ es) replied.tried.0 ∙ append-nil saved.history) in
-    serves_none s.server.topology s t refl (whole ∙ (ap₂ (λ (c : Counts) (h : List Entry). serving saved.server saved.disk c h) counted grown ∙ same))
-serves_by (d ∷ taken) answers s saved t counts history received replied again = in_order (d ∷ taken) answers s saved t counts history received replied again
+    serves_none s.server.topology s t refl (whole ∙ (ap₂ (λ (u : Tally) (h : List Entry). serving saved.server saved.disk u h) counted grown ∙ same))
+serves_by (d ∷ taken) circuits answers s saved t tally history received replied again = in_order (d ∷ taken) circuits answers s saved t tally history received replied again

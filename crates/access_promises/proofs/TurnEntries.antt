@@ -11,8 +11,9 @@ use Rattle.sockets.specs.Sockets.{client_port, framed, proto_of}
 use Rattle.udp.specs.History.{Entry, Took, Failed, Empty, Sent, Ticked, Refused, Read}
 use Rattle.udp.specs.declared.history.Role.{Role}
 use Rattle.udp.specs.declared.history.Role.TheVariants.{Circuit, Server, Relay}
+use Rattle.counts.specs.Tally.{CircuitFate}
 use Rattle.counts.specs.declared.counts.Fate.{Fate}
-use Rattle.counts.specs.declared.counts.Fate.TheVariants as outcome
+use Rattle.counts.specs.declared.counts.Fate.TheVariants as fate
 use Rattle.access.specs.Polling.{AreTries, after_try, server_socket}
 use Rattle.access.specs.Turn.{Both, CircuitSocket, CircuitsSockets, GoesOn, InOrder, IsSentDown, IsSentUp, IsTried, RelaySocket, RelaysSockets, Tries}
 use Rattle.access.specs.declared.polling.Polling.{Polling}
@@ -22,8 +23,8 @@ use Rattle.access_promises.proofs.EntryKinds.{AreOf, goes_on, kind, kinds_more}
 -- ---- which part of a turn they are of
 
 took_of : (n : ℕ) (socket : Role) → ((from : Source) (bytes : List ℕ) → kind (Took socket from bytes) ≡ n) → (kind (Empty socket) ≡ n) → (kind (Failed socket) ≡ n)
-    → (Made : Source → List ℕ → List Entry → Fate → Type 0) → ((from : Source) (bytes : List ℕ) (rest : List Entry) (became : Fate) → Made from bytes rest became → AreOf n rest)
-    → (entries : List Entry) (outcomes : List Fate) → IsTried socket Made entries outcomes → AreOf n entries
+    → (Made : Source → List ℕ → List Entry → CircuitFate → Type 0) → ((from : Source) (bytes : List ℕ) (rest : List Entry) (outcome : CircuitFate) → Made from bytes rest outcome → AreOf n rest)
+    → (entries : List Entry) (outcomes : List CircuitFate) → IsTried socket Made entries outcomes → AreOf n entries
 took_of n socket took empty failed Made made entries outcomes (inl idle) = by idle.0 where
   by : (entries ≡ Empty socket ∷ []) ⊎ (entries ≡ Failed socket ∷ []) → AreOf n entries
   by (inl is) = subst (AreOf n) (sym is) (empty, tt)
@@ -36,31 +37,31 @@ sent_of : (n : ℕ) (socket : Role) (to : Source) (done : Fate) (answer : Result
 sent_of n socket to done (Err why) rest became sent goes = subst (AreOf n) (sym goes.0) tt
 sent_of n socket to done (Ok bytes) rest became sent goes = subst (AreOf n) (sym goes.1) (sent bytes goes.0, tt)
 
-ordered_of : (n : ℕ) (Try : ℕ → Tries) → ((k : ℕ) (entries : List Entry) (outcomes : List Fate) → Try k entries outcomes → AreOf n entries)
-    → (m : ℕ) (entries : List Entry) (outcomes : List Fate) → InOrder Try m entries outcomes → AreOf n entries
+ordered_of : (n : ℕ) (Try : ℕ → Tries) → ((k : ℕ) (entries : List Entry) (outcomes : List CircuitFate) → Try k entries outcomes → AreOf n entries)
+    → (m : ℕ) (entries : List Entry) (outcomes : List CircuitFate) → InOrder Try m entries outcomes → AreOf n entries
 ordered_of n Try one zero entries outcomes none = subst (AreOf n) (sym none.0) tt
 ordered_of n Try one (suc m) entries outcomes both =
     subst (AreOf n) (sym both.entries_are) (kinds_more n both.before both.after (ordered_of n Try one m both.before both.done both.one) (one m both.after both.more both.other))
 
-frame_of : (topology : Topology) (c : ℕ) (proto : Proto) (entries : List Entry) (outcomes : List Fate) → CircuitSocket topology c proto entries outcomes → AreOf 1 entries
+frame_of : (topology : Topology) (c : ℕ) (proto : Proto) (entries : List Entry) (outcomes : List CircuitFate) → CircuitSocket topology c proto entries outcomes → AreOf 1 entries
 frame_of topology c proto = took_of 1 (Circuit c proto) (λ from bytes. refl) refl refl (λ from frame. IsSentUp topology c proto frame)
-    (λ from frame rest became sent. sent_of 1 (Relay sent.relay) (listen topology proto) outcome.Relayed (relayed_up sent.part proto frame) rest became (λ bytes accepted. refl) sent.goes_on)
+    (λ from frame rest outcome sent. sent_of 1 (Relay sent.relay) (listen topology proto) fate.Relayed (relayed_up sent.part proto frame) rest outcome.became (λ bytes accepted. refl) sent.goes_on)
 
-pub ups_of : (topology : Topology) (entries : List Entry) (outcomes : List Fate) → CircuitsSockets topology entries outcomes → AreOf 1 entries
+pub ups_of : (topology : Topology) (entries : List Entry) (outcomes : List CircuitFate) → CircuitsSockets topology entries outcomes → AreOf 1 entries
 ups_of topology = ordered_of 1 (λ c. Both (CircuitSocket topology c V4) (CircuitSocket topology c V6))
     (λ c entries outcomes both.
     subst (AreOf 1) (sym both.entries_are) (kinds_more 1 both.before both.after (frame_of topology c V4 both.before both.done both.one) (frame_of topology c V6 both.after both.more both.other)))
     (length topology.circuits)
 
-down_of : (port : ℕ) (made : Result CircuitFrame Discard) (rest : List Entry) (became : Fate) → IsSentDown port made rest became → AreOf 4 rest
-down_of port (Err why) rest became sent = subst (AreOf 4) (sym sent.0) tt
-down_of port (Ok frame) rest became sent =
-    sent_of 4 (Circuit frame.circuit (proto_of frame.frame.dest)) (client_port port frame.circuit (proto_of frame.frame.dest)) outcome.Delivered (Ok (framed frame.frame.dest frame.frame.bytes)) rest became (λ bytes accepted. refl) sent
+down_of : (port : ℕ) (made : Result CircuitFrame Discard) (rest : List Entry) (outcome : CircuitFate) → IsSentDown port made rest outcome → AreOf 4 rest
+down_of port (Err why) rest outcome sent = subst (AreOf 4) (sym sent.0) tt
+down_of port (Ok frame) rest outcome sent =
+    sent_of 4 (Circuit frame.circuit (proto_of frame.frame.dest)) (client_port port frame.circuit (proto_of frame.frame.dest)) fate.Delivered (Ok (framed frame.frame.dest frame.frame.bytes)) rest outcome.became (λ bytes accepted. refl) sent.0
 
-pub downs_of : (topology : Topology) (port : ℕ) (entries : List Entry) (outcomes : List Fate) → RelaysSockets topology port entries outcomes → AreOf 4 entries
+pub downs_of : (topology : Topology) (port : ℕ) (entries : List Entry) (outcomes : List CircuitFate) → RelaysSockets topology port entries outcomes → AreOf 4 entries
 downs_of topology port = ordered_of 4 (RelaySocket topology port)
     (λ r. took_of 4 (Relay r) (λ from bytes. refl) refl refl (λ from datagram. IsSentDown port (relayed_down_in topology r from datagram))
-    (λ from datagram rest became sent. down_of port (relayed_down_in topology r from datagram) rest became sent))
+    (λ from datagram rest outcome sent. down_of port (relayed_down_in topology r from datagram) rest outcome sent))
     (length topology.relays)
 
 server_of : (entry : Entry) (proto : Proto) → server_socket entry ≡ Some proto → kind entry ≡ 2
@@ -112,8 +113,8 @@ pub record IsTurn (topology : Topology) (port now : ℕ) (entries : List Entry) 
   pub poll : List Entry
   pub sends : List Entry
   pub down : List Entry
-  pub ups : List Fate
-  pub downs : List Fate
+  pub ups : List CircuitFate
+  pub downs : List CircuitFate
   pub tried_up : CircuitsSockets topology up ups
   pub polled : AreOf 2 poll
   pub sent : AreOf 3 sends

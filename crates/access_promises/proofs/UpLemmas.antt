@@ -15,8 +15,9 @@ use Rattle.config.specs.Topology.{IsTopology, Topology, listen}
 use Rattle.relay.specs.Relays.{relayed_up}
 use Rattle.udp.specs.History.{Entry, Took, Failed, Empty, Sent, Ticked, Refused, Read}
 use Rattle.udp.specs.declared.history.Role.TheVariants.{Circuit, Server, Relay}
+use Rattle.counts.specs.Tally.{CircuitFate}
 use Rattle.counts.specs.declared.counts.Fate.{Fate}
-use Rattle.counts.specs.declared.counts.Fate.TheVariants as outcome
+use Rattle.counts.specs.declared.counts.Fate.TheVariants as fate
 use Rattle.access.specs.Turn.{Both, CircuitSocket, CircuitsSockets, GoesOn, InOrder, Tries}
 use Rattle.access_promises.specs.Alone.{goes_up, relayed_alone}
 use Rattle.access_promises.specs.Own.{Packet, Relayed, Upward, first_sent_up, frames_in, own_frame, packet, relayed_in, sent_up}
@@ -107,7 +108,7 @@ module _ (topology : Topology) where
       sent : filter_map (sent_up topology) (Took (Circuit k proto) from frame ∷ rest) ≡ cons_option (sent_so made) []
       goes : filter_map (goes_up topology) (Took (Circuit k proto) from frame ∷ rest) ≡ cons_option (goes_up topology (Took (Circuit k proto) from frame)) []
 
-    so : (made : Result (List ℕ) Discard) (rest : List Entry) (became : Fate) → GoesOn (Relay r) (listen topology proto) outcome.Relayed made rest became → AreSo made rest
+    so : (made : Result (List ℕ) Discard) (rest : List Entry) (became : Fate) → GoesOn (Relay r) (listen topology proto) fate.Relayed made rest became → AreSo made rest
     so (Err why) rest became goes = subst (AreSo (Err why)) (sym goes.0) (record { own = λ c. refl; frames = λ c. refl; sent = refl; goes = refl })
     so (Ok bytes) rest became goes = subst (AreSo (Ok bytes)) (sym goes.1) (record { own = λ c. refl; frames = λ c. refl; sent = refl; goes = refl })
 
@@ -121,7 +122,7 @@ module _ (topology : Topology) where
     own_so c part here true is =
         own_same part (same_part its part (sym there ∙ (ap (slice_get topology.circuits) (eqb-true k c is) ∙ here)))
 
-    up_frame : (rest : List Entry) (became : Fate) → GoesOn (Relay r) (listen topology proto) outcome.Relayed (relayed_up its proto frame) rest became → AreUp (Took (Circuit k proto) from frame ∷ rest)
+    up_frame : (rest : List Entry) (became : Fate) → GoesOn (Relay r) (listen topology proto) fate.Relayed (relayed_up its proto frame) rest became → AreUp (Took (Circuit k proto) from frame ∷ rest)
     up_frame rest became goes =
         let is = so (relayed_up its proto frame) rest became goes in
         record {
@@ -130,22 +131,22 @@ module _ (topology : Topology) where
           all = is.sent ∙ (ap (λ o. cons_option o []) (sym alone_so ∙ sym (ap (option_and_then (λ (part : CircuitPart). (relayed_alone part (packet proto frame)).sent)) there)) ∙ sym is.goes);
         }
 
-  up_tried : IsTopology topology → (k : ℕ) (proto : Proto) (entries : List Entry) (outcomes : List Fate) → CircuitSocket topology k proto entries outcomes → AreUp entries
+  up_tried : IsTopology topology → (k : ℕ) (proto : Proto) (entries : List Entry) (outcomes : List CircuitFate) → CircuitSocket topology k proto entries outcomes → AreUp entries
   up_tried sound k proto entries outcomes (inl idle) = by idle.0 where
     by : (entries ≡ Empty (Circuit k proto) ∷ []) ⊎ (entries ≡ Failed (Circuit k proto) ∷ []) → AreUp entries
     by (inl is) = subst AreUp (sym is) (record { first = refl; own = λ c part there. refl; all = refl })
     by (inr is) = subst AreUp (sym is) (record { first = refl; own = λ c part there. refl; all = refl })
   up_tried sound k proto entries outcomes (inr taken) =
       let sent = taken.made in
-      subst AreUp (sym taken.entries_are) (up_frame sound k proto taken.from taken.bytes sent.part sent.relay sent.its_part sent.its_relay taken.rest taken.outcome sent.goes_on)
+      subst AreUp (sym taken.entries_are) (up_frame sound k proto taken.from taken.bytes sent.part sent.relay sent.its_part sent.its_relay taken.rest taken.outcome.became sent.goes_on)
 
-  up_ordered : (Try : ℕ → Tries) → ((k : ℕ) (entries : List Entry) (outcomes : List Fate) → Try k entries outcomes → AreUp entries)
-      → (m : ℕ) (entries : List Entry) (outcomes : List Fate) → InOrder Try m entries outcomes → AreUp entries
+  up_ordered : (Try : ℕ → Tries) → ((k : ℕ) (entries : List Entry) (outcomes : List CircuitFate) → Try k entries outcomes → AreUp entries)
+      → (m : ℕ) (entries : List Entry) (outcomes : List CircuitFate) → InOrder Try m entries outcomes → AreUp entries
   up_ordered Try one zero entries outcomes none = subst AreUp (sym none.0) up_none
   up_ordered Try one (suc m) entries outcomes both =
       subst AreUp (sym both.entries_are) (up_more both.before both.after (up_ordered Try one m both.before both.done both.one) (one m both.after both.more both.other))
 
-  up_all : IsTopology topology → (entries : List Entry) (outcomes : List Fate) → CircuitsSockets topology entries outcomes → AreUp entries
+  up_all : IsTopology topology → (entries : List Entry) (outcomes : List CircuitFate) → CircuitsSockets topology entries outcomes → AreUp entries
   up_all sound = up_ordered (λ c. Both (CircuitSocket topology c V4) (CircuitSocket topology c V6))
       (λ c entries outcomes both.
       subst AreUp (sym both.entries_are) (up_more both.before both.after (up_tried sound c V4 both.before both.done both.one) (up_tried sound c V6 both.after both.more both.other)))

@@ -36,7 +36,7 @@ pub fn begins_with_its_pools(access: &Access)
         → IsRun access.now new → AreExchanges access.now new exchanges
         → slice_get access.now.topology.circuits c ≡ Some part → IsCircuitOf c part access.now new exchanges }
 {
-    access.server().has_slots_of_pools();
+    dispatch::laws::has_slots_of_pools(access.server());
 }
 
 /// A lease is saved before its acknowledgement leaves: where a DHCPACK with a lease, or a Reply with one, leaves in a run, its save

@@ -11,7 +11,7 @@ use Rattle.types.specs.declared.discard.Discard.TheVariants.{TooLong, MalformedU
 use Rattle.counts.specs.Counts.{HasRoom, counted, counted_all, one_more, total}
 use Rattle.counts.specs.declared.counts.Counts.{Counts}
 use Rattle.counts.specs.declared.counts.Fate.{Fate}
-use Rattle.counts.specs.declared.counts.Fate.TheVariants as outcome
+use Rattle.counts.specs.declared.counts.Fate.TheVariants as fate
 
 -- each reason has its counter
 within : (why : Discard) → number_of why < 35
@@ -61,21 +61,21 @@ rooms_before counts at inside rooms k d lt = by (cases_eq k at)
     by (inr other) = subst (λ n. n < 18446744073709551615) (get_or-set_other counts at k (one_more (slice_index counts at)) d other) (rooms k d (subst (λ n. k < n) (sym (length-set counts at _)) lt))
 
 counted_length : (o : Fate) (c : Counts) → length (counted o c).dropped ≡ length c.dropped
-counted_length outcome.Relayed c = refl
-counted_length outcome.Answered c = refl
-counted_length outcome.Delivered c = refl
-counted_length outcome.Unsent c = refl
-counted_length (outcome.Dropped why) c = length-set c.dropped (number_of why) _
+counted_length fate.Relayed c = refl
+counted_length fate.Answered c = refl
+counted_length fate.Delivered c = refl
+counted_length fate.Unsent c = refl
+counted_length (fate.Dropped why) c = length-set c.dropped (number_of why) _
 
 counter_of : (why : Discard) (c : Counts) → length c.dropped ≡ 35 → number_of why < length c.dropped
 counter_of why c many = subst (λ n. number_of why < n) (sym many) (within why)
 
 counted_before : (o : Fate) (c : Counts) → length c.dropped ≡ 35 → HasRoom (counted o c) → HasRoom c
-counted_before outcome.Relayed c many room = record { relayed = room_before c.relayed room.relayed; answered = room.answered; delivered = room.delivered; unsent = room.unsent; dropped = room.dropped }
-counted_before outcome.Answered c many room = record { relayed = room.relayed; answered = room_before c.answered room.answered; delivered = room.delivered; unsent = room.unsent; dropped = room.dropped }
-counted_before outcome.Delivered c many room = record { relayed = room.relayed; answered = room.answered; delivered = room_before c.delivered room.delivered; unsent = room.unsent; dropped = room.dropped }
-counted_before outcome.Unsent c many room = record { relayed = room.relayed; answered = room.answered; delivered = room.delivered; unsent = room_before c.unsent room.unsent; dropped = room.dropped }
-counted_before (outcome.Dropped why) c many room = record {
+counted_before fate.Relayed c many room = record { relayed = room_before c.relayed room.relayed; answered = room.answered; delivered = room.delivered; unsent = room.unsent; dropped = room.dropped }
+counted_before fate.Answered c many room = record { relayed = room.relayed; answered = room_before c.answered room.answered; delivered = room.delivered; unsent = room.unsent; dropped = room.dropped }
+counted_before fate.Delivered c many room = record { relayed = room.relayed; answered = room.answered; delivered = room_before c.delivered room.delivered; unsent = room.unsent; dropped = room.dropped }
+counted_before fate.Unsent c many room = record { relayed = room.relayed; answered = room.answered; delivered = room.delivered; unsent = room_before c.unsent room.unsent; dropped = room.dropped }
+counted_before (fate.Dropped why) c many room = record {
   relayed = room.relayed;
   answered = room.answered;
   delivered = room.delivered;
@@ -88,11 +88,11 @@ grows : (n : ℕ) → one_more n < 18446744073709551615 → one_more n ≡ n + 1
 grows n room = omega (arith, room)
 
 counted_total : (o : Fate) (c : Counts) → length c.dropped ≡ 35 → HasRoom (counted o c) → total (counted o c) ≡ total c + 1
-counted_total outcome.Relayed c many room = let more = grows c.relayed room.relayed in omega (arith, more)
-counted_total outcome.Answered c many room = let more = grows c.answered room.answered in omega (arith, more)
-counted_total outcome.Delivered c many room = let more = grows c.delivered room.delivered in omega (arith, more)
-counted_total outcome.Unsent c many room = let more = grows c.unsent room.unsent in omega (arith, more)
-counted_total (outcome.Dropped why) c many room =
+counted_total fate.Relayed c many room = let more = grows c.relayed room.relayed in omega (arith, more)
+counted_total fate.Answered c many room = let more = grows c.answered room.answered in omega (arith, more)
+counted_total fate.Delivered c many room = let more = grows c.delivered room.delivered in omega (arith, more)
+counted_total fate.Unsent c many room = let more = grows c.unsent room.unsent in omega (arith, more)
+counted_total (fate.Dropped why) c many room =
     let at = number_of why in
     let inside = counter_of why c many in
     let next = one_more (slice_index c.dropped at) in

@@ -6,9 +6,9 @@ use Rattle.counts.specs.declared.counts.Fate.{Fate}
 
 -- one more datagram for what is counted in a place, if there is one
 abbrev pub counted_at : List Counts → ℕ → Fate → Option Counts → List Counts
-counted_at counts c outcome None = counts
-counted_at counts c outcome (Some own) = slice_set counts c (counted outcome own)
+counted_at counts c became None = counts
+counted_at counts c became (Some own) = slice_set counts c (counted became own)
 
 -- one more datagram of a circuit, by what became of it; every other circuit's counts stay
 abbrev pub counted_for : ℕ → Fate → List Counts → List Counts
-counted_for c outcome counts = counted_at counts c outcome (slice_get counts c)
+counted_for c became counts = counted_at counts c became (slice_get counts c)

@@ -6,7 +6,7 @@ use Rattle.types.specs.declared.discard.Discard.TheVariants.{TooLong, MalformedU
 use Rattle.types.specs.Discard.{number_of, words_of}
 use Rattle.counts.specs.declared.counts.Counts.{Counts}
 use Rattle.counts.specs.declared.counts.Fate.{Fate}
-use Rattle.counts.specs.declared.counts.Fate.TheVariants as outcome
+use Rattle.counts.specs.declared.counts.Fate.TheVariants as fate
 
 -- one more, up to the greatest 64-bit number
 abbrev pub one_more : ℕ → ℕ
@@ -26,11 +26,11 @@ none = record { received = 0; relayed = 0; answered = 0; delivered = 0; unsent =
 
 -- one more datagram that was taken, by what became of it
 abbrev pub counted : Fate → Counts → Counts
-counted outcome.Relayed c = record c { received = one_more c.received; relayed = one_more c.relayed }
-counted outcome.Answered c = record c { received = one_more c.received; answered = one_more c.answered }
-counted outcome.Delivered c = record c { received = one_more c.received; delivered = one_more c.delivered }
-counted outcome.Unsent c = record c { received = one_more c.received; unsent = one_more c.unsent }
-counted (outcome.Dropped why) c = record c { received = one_more c.received; dropped = one_more_for why c.dropped }
+counted fate.Relayed c = record c { received = one_more c.received; relayed = one_more c.relayed }
+counted fate.Answered c = record c { received = one_more c.received; answered = one_more c.answered }
+counted fate.Delivered c = record c { received = one_more c.received; delivered = one_more c.delivered }
+counted fate.Unsent c = record c { received = one_more c.received; unsent = one_more c.unsent }
+counted (fate.Dropped why) c = record c { received = one_more c.received; dropped = one_more_for why c.dropped }
 
 -- one datagram after the other
 abbrev pub counted_all : List Fate → Counts → Counts

@@ -1,9 +1,10 @@
 //! What became of the datagrams of each circuit.
-ghost use Rattle.std.specs.Prelude.{◌≡◌, ◌<◌, replicate};
+ghost use Rattle.std.specs.Prelude.{◌≡◌, ◌<◌, option_map, replicate, slice_get};
 ghost use Rattle.counts.specs.CircuitCounts.{counted_for};
 ghost use Rattle.counts.specs.Counts.{none};
 
 use crate::counts::{Counts, Fate};
+use types::Circuit;
 
 /// How many circuits are counted, the first ones.
 pub const COUNTED_CIRCUITS: usize = 16;
@@ -24,18 +25,21 @@ impl CircuitCounts {
         }
     }
 
-    /// One more datagram of the circuit of this index was taken, and this became of it. Nothing is counted for the
-    /// circuits after the first 16.
-    pub fn count_for(&mut self, circuit: usize, outcome: Fate)
-        ensures { self.new.circuits ≡ counted_for circuit outcome self.old.circuits }
+    /// One more datagram of this circuit was taken, and this became of it. Nothing is counted for the circuits after the
+    /// first 16.
+    pub fn count_for(&mut self, circuit: Circuit, became: Fate)
+        ensures { self.new.circuits ≡ counted_for circuit became self.old.circuits }
     {
-        if circuit < COUNTED_CIRCUITS {
-            self.circuits[circuit].count(outcome);
+        let index = circuit.index();
+        if index < COUNTED_CIRCUITS {
+            self.circuits[index].count(became);
         }
     }
 
     /// What became of the datagrams of the circuit of this index.
-    pub fn of(&self, circuit: usize) -> Option<&Counts> {
+    pub fn of(&self, circuit: usize) -> Option<&Counts>
+        ensures { option_map (λ counts. counts.now) result ≡ slice_get self.now.circuits circuit }
+    {
         self.circuits.get(circuit)
     }
 }

@@ -4,7 +4,7 @@ ghost use Rattle.std.specs.Fmt.{WritesOnOk};
 ghost use Rattle.std.specs.List.{flat_map};
 ghost use Rattle.types.specs.Discard.{number_of};
 ghost use Rattle.counts.specs.Counts.{counted, counts_text, dropped_text, none, one_more, reasons, totals_text};
-ghost use Rattle.counts.specs.declared.counts.Fate.TheVariants as outcome;
+ghost use Rattle.counts.specs.declared.counts.Fate.TheVariants as fate;
 
 use std::fmt;
 use types::Discard;
@@ -57,7 +57,7 @@ pub enum Fate {
 impl Fate {
     /// What became of a datagram by whether the system took what was to be sent.
     pub fn if_sent(self, sent: bool) -> Fate
-        ensures { result ≡ (if sent then self else outcome.Unsent) }
+        ensures { result ≡ (if sent then self else fate.Unsent) }
     {
         if sent { self } else { Fate::Unsent }
     }
@@ -106,11 +106,11 @@ impl Counts {
     }
 
     /// One more datagram was taken, and this became of it.
-    pub fn count(&mut self, outcome: Fate)
-        ensures { self.new ≡ counted outcome self.old }
+    pub fn count(&mut self, became: Fate)
+        ensures { self.new ≡ counted became self.old }
     {
         count(&mut self.received);
-        match outcome {
+        match became {
             Fate::Relayed => count(&mut self.relayed),
             Fate::Answered => count(&mut self.answered),
             Fate::Delivered => count(&mut self.delivered),

@@ -4,6 +4,8 @@
 mod circuit_counts;
 mod counts;
 pub mod laws;
+mod tally;
 
 pub use circuit_counts::{COUNTED_CIRCUITS, CircuitCounts};
 pub use counts::{Counts, Fate, REASONS};
+pub use tally::Tally;

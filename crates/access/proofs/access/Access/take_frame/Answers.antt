@@ -1,4 +1,4 @@
-use Rattle.std.proofs.Common.{◌≡◌, ◌<◌, ◌∙◌, ℕ, length, take, sym, ap, subst, rules}
+use Rattle.std.proofs.Common.{◌≡◌, ◌<◌, ◌∙◌, ℕ, length, take, refl, sym, ap, subst, rules}
 use Rattle.std.specs.Prelude.{Some, slice_get}
 use Rattle.config.specs.Topology.{Topology, listen}
 use Rattle.relay.specs.Relays.{relayed_up}
@@ -7,7 +7,8 @@ use Rattle.udp.specs.declared.history.Role.TheVariants as role
 use Rattle.access.specs.Access.{AccessValue, HasCarried, IsAccess}
 use Rattle.access.specs.Turn.{CircuitSocket, IsSentUp}
 use Rattle.access.specs.contracts.access.Access.{the_view}
-use Rattle.counts.specs.declared.counts.Fate.TheVariants as outcome
+use Rattle.counts.specs.Tally.{circuit_fate, tallied}
+use Rattle.counts.specs.declared.counts.Fate.TheVariants as fate
 use Rattle.access.proofs.AnswerLemmas.{went}
 use Rattle.access.proofs.CarryLemmas.{carried_idle, carried_taken, idle_attempt}
 use Rattle.access.proofs.UpLemmas.{circuits_own, own_sockets, relays_own, up_answer}
@@ -21,8 +22,8 @@ take_if_ready-requires c =
     sym (circuits_own inside.relays.topology inside.port inside.history.id inside.sockets c.self.invariant.6 c.self.invariant.0 c.args.index within c.index-sockets.result.now c.index-sockets.ensures
     c.args.proto c.socket-socket.result.now c.socket-socket.ensures.v4 c.socket-socket.ensures.v6).history
 
-pub send_on-outcome-requires : goal.send_on-outcome-requires
-send_on-outcome-requires c =
+pub send_on-became-requires : goal.send_on-became-requires
+send_on-became-requires c =
     let inside = c.self.inside in
     let relay = c.index.result.now.relay in
     let its_relay : relay < length inside.sockets.relays.items = search rules in
@@ -52,8 +53,8 @@ returns-in_default-clause-carried c =
 pub invariant_of-self-2 : goal.invariant_of-self-2
 invariant_of-self-2 c =
     let inside = c.self.inside in
-    subst (λ (t : Topology). IsAccess t inside.sockets inside.server inside.disk.regions inside.port inside.batch.most c.send_on-outcome.new.history.id inside.listen4 inside.listen6) (sym c.up-made.ensures.topology)
-    (subst (λ (h : ℕ). IsAccess inside.relays.topology inside.sockets inside.server inside.disk.regions inside.port inside.batch.most h inside.listen4 inside.listen6) (sym (c.send_on-outcome.ensures.same ∙ c.take_if_ready.ensures.same)) c.self.invariant)
+    subst (λ (t : Topology). IsAccess t inside.sockets inside.server inside.disk.regions inside.port inside.batch.most c.send_on-became.new.history.id inside.listen4 inside.listen6) (sym c.up-made.ensures.topology)
+    (subst (λ (h : ℕ). IsAccess inside.relays.topology inside.sockets inside.server inside.disk.regions inside.port inside.batch.most h inside.listen4 inside.listen6) (sym (c.send_on-became.ensures.same ∙ c.take_if_ready.ensures.same)) c.self.invariant)
 
 pub returns-clause-carried : goal.returns-clause-carried
 returns-clause-carried c =
@@ -77,11 +78,12 @@ returns-clause-carried c =
     ] in
     let answer = up_answer topology.circuits c.at-circuit.result relays.0 proto frame c.up-made.result c.up-made.new.out (subst (λ n. slice_get topology.circuits n ≡ Some relays.0) (sym c.at-circuit.ensures) relays.1)
     c.up-made.ensures.ok c.up-made.ensures.err c.up-made.ensures.empty in
-    let w = went _ (role.Relay relay) _ (listen topology proto) outcome.Relayed (relayed_up relays.0 proto frame) c.up-made.result _ c.up-made.new.out c.take_if_ready.new.history.entries c.send_on-outcome.new.history.entries c.send_on-outcome.result
-    sender to c.as_slice-out.ensures.value answer c.send_on-outcome.ensures.sent in
-    let carried = carried_taken (role.Circuit index proto) (λ from bytes. IsSentUp topology index proto bytes) before c.take_if_ready.new.history.entries c.send_on-outcome.new.history.entries w.rest c.count.new.self c.in-Took.field-1 frame
-    c.send_on-outcome.result took w.history c.count.ensures (record { part = relays.0; relay = relay; its_part = relays.1; its_relay = relays.2.relay; goes_on = w.goes_on }) in
+    let w = went _ (role.Relay relay) _ (listen topology proto) fate.Relayed (relayed_up relays.0 proto frame) c.up-made.result _ c.up-made.new.out c.take_if_ready.new.history.entries c.send_on-became.new.history.entries c.send_on-became.result
+    sender to c.as_slice-out.ensures.value answer c.send_on-became.ensures.sent in
+    let count = c.count.ensures ∙ ap (λ k. tallied (circuit_fate (Some k) c.send_on-became.result) inside.tally) c.at-circuit.ensures in
+    let carried = carried_taken (role.Circuit index proto) (λ from bytes. IsSentUp topology index proto bytes) before c.take_if_ready.new.history.entries c.send_on-became.new.history.entries w.rest c.count.new.self c.in-Took.field-1 frame
+    (circuit_fate (Some index) c.send_on-became.result) took w.history count (record { part = relays.0; relay = relay; its_part = relays.1; its_relay = relays.2.relay; goes_on = w.goes_on; counted = refl }) in
     subst (λ (old : AccessValue). HasCarried (CircuitSocket old.topology index proto) 1 old
-    (record before { topology = c.up-made.new.self.topology; counts = c.count.new.self; history = c.send_on-outcome.new.history.entries })) c.self.view_is
-    (subst (λ (t : Topology). HasCarried (CircuitSocket topology index proto) 1 before (record before { topology = t; counts = c.count.new.self; history = c.send_on-outcome.new.history.entries }))
+    (record before { topology = c.up-made.new.self.topology; tally = c.count.new.self; history = c.send_on-became.new.history.entries })) c.self.view_is
+    (subst (λ (t : Topology). HasCarried (CircuitSocket topology index proto) 1 before (record before { topology = t; tally = c.count.new.self; history = c.send_on-became.new.history.entries }))
     (sym c.up-made.ensures.topology) carried)

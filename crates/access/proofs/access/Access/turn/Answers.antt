@@ -32,7 +32,7 @@ returns-clause-turned c =
           ∙ ap (λ (s : AccessValue). books_at c.args.now (books_in s.server)) c.self.view_is;
       known = c.tick.ensures.topology ∙ ap (λ (s : AccessValue). s.server.topology) c.self.view_is;
       rest = ap (λ (s : AccessValue). record s { server = c.tick.new.self; history = c.tick-2.new.self.entries; turns = c.tick-3.new.self.count }) c.self.view_is;
-      counts = ap (λ (s : AccessValue). s.counts) c.self.view_is;
+      tally = ap (λ (s : AccessValue). s.tally) c.self.view_is;
       history = c.tick-2.ensures.entries ∙ ap (λ (s : AccessValue). with_entry (Ticked c.args.now) s.history) c.self.view_is;
       many = refl;
     }
@@ -41,7 +41,7 @@ pub returns-clause-counts : goal.returns-clause-counts
 returns-clause-counts c = turned_counts c.args.now _ c.args.self.now _ (returns-clause-turned c)
 
 pub returns-clause-received : goal.returns-clause-received
-returns-clause-received c = counted_received _ c.args.self.now.counts c.self.inside.counts (returns-clause-counts c) (search rules)
+returns-clause-received c = counted_received _ c.args.self.now.tally.all c.self.inside.tally.all (returns-clause-counts c) (search rules)
 
 pub returns-clause-quiet : goal.returns-clause-quiet
 returns-clause-quiet c = quiet c.args.now _ c.args.self.now _ (returns-clause-turned c)

@@ -18,17 +18,17 @@ only_one (x ∷ []) least most = refl
 only_one (x ∷ y ∷ rest) least most = absurd (omega (arith, most))
 
 pub returns-in-len1-clause-received : goal.returns-in-len1-clause-received
-returns-in-len1-clause-received c = λ counts history.
+returns-in-len1-clause-received c = λ tally history.
     let old = c.args.server.now in
     let new = c.receive_batch.new.self in
     let before = device_of c.args.disk.now in
     let after = device_of c.receive_batch.new.disk in
-    let answers = c.receive_batch.new.answers in
+    let answers = c.receive_batch.new.answers.answers in
     let xs = c.as_slice-taken.result.now in
     let is : c.args.self.now.taken ≡ slice_index_or xs 0 no_datagram ∷ [] = sym c.as_slice-taken.ensures.value ∙ only_one xs c.in-len1.len_at_least c.in-len1.len_below in
     let d = slice_index_or xs 0 no_datagram in
     let same = ap (λ bytes. delivery d.proto d.source c.args.now bytes ∷ []) c.bytes.ensures in
-    subst (λ (taken : List Datagram). AreReceived (all_delivered c.args.now taken) answers (serving old c.args.disk.now counts history) (serving new c.receive_batch.new.disk counts history)) (sym is)
+    subst (λ (taken : List Datagram). AreReceived (all_delivered c.args.now taken) answers (serving old c.args.disk.now tally history) (serving new c.receive_batch.new.disk tally history)) (sym is)
     (record {
       batch = subst (λ (ds : List DeliveryValue). IsBatch old.topology ds (has_failed before after) (books_in old) (books_in new) answers) same c.receive_batch.ensures.answers;
       calls = subst (λ (ds : List DeliveryValue). IsCalledToSave (batch_saves old.topology ds (books_in old)) before after) same c.receive_batch.ensures.calls;

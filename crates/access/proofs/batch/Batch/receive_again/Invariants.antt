@@ -10,6 +10,6 @@ invariant-parts l = record {
   same : l.history.id ≡ l.fn.history.id;
   topology : l.server.topology ≡ l.fn.server.topology;
   regions : l.disk.regions ≡ l.fn.disk.regions;
-  again : AreReceivedAgain (all_delivered l.now l.self.taken) l.self.answers l.index
-      (serving l.fn.server l.fn.disk l.fn.counts l.fn.history.entries) (serving l.server l.disk l.counts l.history.entries);
+  again : AreReceivedAgain (all_delivered l.now l.self.taken) l.self.answers.answers l.index
+      (serving l.fn.server l.fn.disk l.fn.tally l.fn.history.entries) (serving l.server l.disk l.tally l.history.entries);
 }

@@ -1,5 +1,5 @@
-use Rattle.std.proofs.Common.{◌≡◌, ℕ, ◌≤◌, length, take}
-use Rattle.access.specs.Batch.{AreReplied, HasTried, counted_answers}
+use Rattle.std.proofs.Common.{◌≡◌, ℕ, ◌≤◌, length}
+use Rattle.access.specs.Batch.{AreReplied, HasTried}
 use Rattle.access.specs.Taken.{all_delivered}
 use Rattle.access.proofs.batch.Batch.reply.Given as goal
 
@@ -7,8 +7,7 @@ use Rattle.access.proofs.batch.Batch.reply.Given as goal
 abbrev pub invariant-parts : goal.invariant-parts
 invariant-parts l = record {
   index : l.index ≤ length l.self.taken;
-  answered : l.index ≤ length l.self.answers;
-  circuits : l.by_circuit.circuits ≡ counted_answers l.server.topology (take l.index (all_delivered 0 l.self.taken)) (take l.index l.self.answers) l.fn.by_circuit.circuits;
+  answered : l.index ≤ length l.self.answers.answers;
   same : l.history.id ≡ l.fn.history.id;
-  replied : (now : ℕ) → HasTried (AreReplied (all_delivered now l.self.taken) l.self.answers l.index) l.fn.counts l.counts l.fn.history.entries l.history.entries;
+  replied : (now : ℕ) → HasTried (AreReplied (all_delivered now l.self.taken) l.self.answers.circuits l.self.answers.answers l.index) l.fn.tally l.tally l.fn.history.entries l.history.entries;
 }
