@@ -249,16 +249,6 @@ impl Server {
         self.servers[circuit.index()].slots_at(self.ticked)
     }
 
-    /// The circuit of a datagram, or the first reason why it is of none. Nothing is changed.
-    pub fn addressee(&self, delivery: &Delivery<'_>) -> Result<Circuit, Discard>
-        ensures { result ≡ who.addressee self.now.topology delivery.now }
-    {
-        match addressee(&self.circuits, delivery) {
-            Ok((circuit, _)) => Ok(circuit),
-            Err(why) => Err(why),
-        }
-    }
-
     /// Each open circuit has the slots of its pools. Nothing is done: `laws` calls this for its contract.
     pub(crate) fn has_slots_of_pools(&self)
         ensures { All HasItsSlots (circuits_in self.now) }
