@@ -1,12 +1,14 @@
 -- What happened at the sockets and the clock, in order.
-use Rattle.std.specs.Prelude.{ℕ, ◌≤◌, ⊤, Bool, List, [], ◌∷◌, ◌++◌, take, Option, option_map}
+use Rattle.std.specs.Prelude.{ℕ, zero, suc, ◌+◌, ◌≤◌, ⊤, Bool, List, [], ◌∷◌, ◌++◌, take, Option, option_map}
 use Rattle.std.specs.Duration.{as_nanos}
 use Rattle.types.specs.declared.addr.Source.{Source}
+use Rattle.types.specs.declared.dest.Proto.{Proto}
 use Rattle.udp.specs.declared.datagram_socket.Attempt.{Attempt}
 use Rattle.udp.specs.declared.datagram_socket.Attempt.TheVariants as attempt
 use Rattle.udp.specs.declared.history.Happened.{Happened}
 use Rattle.udp.specs.declared.history.Happened.TheVariants as happened
 use Rattle.udp.specs.declared.history.Role.{Role}
+use Rattle.udp.specs.declared.history.Role.TheVariants as role
 
 pub data Entry : Type 0 where
   -- a datagram was taken from this socket: where it came from, and its bytes, at most 1281 of them
@@ -24,14 +26,21 @@ pub data Entry : Type 0 where
   -- the system's clock was read, in nanoseconds since 1970; None where it could not be read
   Read : Option ℕ → Entry
 
-abbrev pub entry_of : Happened → Entry
-entry_of (happened.Took socket from bytes) = Took socket from bytes.now
-entry_of (happened.Failed socket) = Failed socket
-entry_of (happened.Empty socket) = Empty socket
-entry_of (happened.Sent socket to bytes accepted) = Sent socket to bytes.now accepted
-entry_of (happened.Ticked now) = Ticked now
-entry_of (happened.Refused socket at) = Refused socket at
-entry_of (happened.Read time) = Read (option_map as_nanos time)
+-- nothing waited at the sockets of this protocol of so many circuits, from this one on
+abbrev pub idle_circuits : Proto → ℕ → ℕ → List Entry
+idle_circuits proto from zero = []
+idle_circuits proto from (suc n) = idle_circuits proto from n ++ Empty (role.Circuit (from + n) proto) ∷ []
+
+-- what a thing that happened adds
+abbrev pub entries_of : Happened → List Entry
+entries_of (happened.Took socket from bytes) = Took socket from bytes.now ∷ []
+entries_of (happened.Failed socket) = Failed socket ∷ []
+entries_of (happened.Empty socket) = Empty socket ∷ []
+entries_of (happened.Idle proto from count) = idle_circuits proto from count
+entries_of (happened.Sent socket to bytes accepted) = Sent socket to bytes.now accepted ∷ []
+entries_of (happened.Ticked now) = Ticked now ∷ []
+entries_of (happened.Refused socket at) = Refused socket at ∷ []
+entries_of (happened.Read time) = Read (option_map as_nanos time) ∷ []
 
 abbrev pub with_entry : Entry → List Entry → List Entry
 with_entry entry entries = entries ++ entry ∷ []

@@ -7,7 +7,7 @@ ghost use Rattle.udp.specs.History.{Empty, IsWithin, Refused, Sent, attempt_entr
 ghost use Rattle.udp.specs.declared.datagram_socket.BindFault.TheVariants as fault;
 
 use crate::history::{Happened, History, Role};
-use crate::waiting::{SHARED, Waiter};
+use crate::waiting::{UNWATCHED, Waiter};
 use mio::net::UdpSocket;
 use std::io::ErrorKind;
 use std::marker::Model;
@@ -42,12 +42,12 @@ pub enum Attempt {
 #[derive(Drop)]
 pub struct DatagramSocket {
     pub(crate) socket: UdpSocket,
-    role: Role,
+    pub(crate) role: Role,
     at: Source,
     /// Which history says what happens at it.
     history: u8,
     /// The bit of the waiter that watches it.
-    pub(crate) bit: u64,
+    pub(crate) bit: usize,
 }
 
 impl Model for DatagramSocket {
@@ -100,7 +100,7 @@ impl DatagramSocket {
                 role,
                 at,
                 history: history.id(),
-                bit: SHARED,
+                bit: UNWATCHED,
             }),
             Err(error) if error.kind() == ErrorKind::OutOfMemory => Err(BindFault::Memory),
             Err(_) => {
@@ -164,7 +164,7 @@ impl DatagramSocket {
             ≡ with_entry (Empty other.now.role) (with_entry (Empty self.now.role) history.old.entries) }
         ensures unknown { result ≡ false → history.new ≡ history.old }
     {
-        let are_idle = !waiter.is_ready(self.bit | other.bit);
+        let are_idle = !waiter.is_ready(self.bit) && !waiter.is_ready(other.bit);
         if are_idle {
             history.add(&Happened::Empty(self.role));
             history.add(&Happened::Empty(other.role));

@@ -1,7 +1,7 @@
 //! What happened at the sockets and the clock, which contracts see and the program does not: it takes no memory.
-ghost use Rattle.std.specs.Prelude.{◌≡◌, List, []};
+ghost use Rattle.std.specs.Prelude.{◌≡◌, ◌++◌, List, []};
 ghost use Rattle.std.specs.Borrow.{ftrue};
-ghost use Rattle.udp.specs.History.{Entry, Ticked, entry_of, with_entry};
+ghost use Rattle.udp.specs.History.{Entry, Ticked, entries_of, idle_circuits, with_entry};
 ghost use Rattle.udp.specs.EntryCode.{entries_code};
 
 use std::marker::{Model, PhantomData};
@@ -28,6 +28,8 @@ pub enum Happened<'a> {
     Failed(Role),
     /// Nothing waited at this socket: a receive found none, or the system has told of none since one did.
     Empty(Role),
+    /// Nothing waited at the sockets of this protocol of so many circuits, from this index on.
+    Idle(Proto, usize, usize),
     /// The system was asked to send a datagram from this socket to there, and accepted it or did not.
     Sent(Role, Source, &'a [u8], bool),
     /// The clocks were moved to this moment, with which a turn ends.
@@ -59,9 +61,9 @@ impl Entries {
         }
     }
 
-    /// These, and this one.
+    /// These, and what this adds.
     fn then(&self, what: &Happened<'_>) -> Entries
-        ensures { result.list ≡ with_entry (entry_of what.now) self.now.list }
+        ensures { result.list ≡ self.now.list ++ entries_of what.now }
     {
         Entries {
             marker: PhantomData,
@@ -105,10 +107,18 @@ impl History {
 
     /// This happened as well: whoever adds it has seen it happen.
     pub(crate) fn add(&mut self, what: &Happened<'_>)
-        ensures entries { self.new.entries ≡ with_entry (entry_of what.now) self.old.entries }
+        ensures entries { self.new.entries ≡ self.old.entries ++ entries_of what.now }
         ensures same { self.new.id ≡ self.old.id }
     {
         self.entries = self.entries.then(what);
+    }
+
+    /// Nothing waited at the sockets of this protocol of so many circuits either, from this index on.
+    pub(crate) fn add_idle(&mut self, proto: Proto, from: usize, count: usize)
+        ensures entries { self.new.entries ≡ self.old.entries ++ idle_circuits proto from count }
+        ensures same { self.new.id ≡ self.old.id }
+    {
+        self.add(&Happened::Idle(proto, from, count));
     }
 
     /// The clocks were moved to this moment as well.

@@ -1,26 +1,24 @@
 //! Which sockets a datagram may wait at, by what the system tells, and waiting for one.
-ghost use Rattle.std.specs.Prelude.{◌≡◌};
+ghost use Rattle.std.specs.Prelude.{◌≡◌, ◌≤◌, ◌<◌, ◌-◌, ◌^◌, ◌++◌};
+ghost use Rattle.udp.specs.History.{idle_circuits};
 
 use crate::datagram_socket::DatagramSocket;
+use crate::history::{History, Role};
 use mio::{Events, Interest, Poll, Token};
 use std::alloc::{AllocError, Global};
 use std::net::Net;
 use std::rt::Clock;
 use std::thread;
 use std::time::Duration;
+use types::{MAX_RELAYS, Proto};
 
-/// Every socket from this number on has one bit together.
-const LAST: usize = 63;
+/// How many sockets a word has a bit for.
+const WORD: usize = 64;
 
-/// That bit, which a socket that is not watched has too. It is always set.
-pub(crate) const SHARED: u64 = 1 << LAST;
+/// The bit of a socket that is not watched. No word has it, so that the socket is always asked.
+pub(crate) const UNWATCHED: usize = usize::MAX;
 
-/// The bit of the socket of this number.
-fn bit(number: usize) -> u64 {
-    1 << number.min(LAST)
-}
-
-/// What the system tells of the sockets that it watches. It takes no memory after the sockets were bound.
+/// What the system tells of the sockets that it watches. It takes no memory after it was made.
 ///
 /// The system tells of a socket when a datagram arrives, once. So a socket may have one from then on until a receive finds it
 /// empty; a datagram that comes after that is told of again. Before the first receive any socket may have one.
@@ -29,36 +27,106 @@ pub struct Waiter {
     /// None where the system does not tell of a socket: then any may have a datagram, and waiting is sleeping.
     poll: Option<Poll>,
     events: Events<Global>,
-    /// How many sockets are watched.
-    count: usize,
-    /// Which sockets may have a datagram, a bit each by its number: most have none, and a turn asks of all.
-    ready: u64,
+    /// How many bits the circuits have for each protocol, in whole words.
+    room: u16,
+    /// Which sockets may have a datagram, a bit each: most have none. The DHCPv4 sockets of the circuits come first, then
+    /// their DHCPv6 sockets, and in the last word those of the server and the relays.
+    ready: Vec<u64>,
+}
+
+/// What a bit is within its word.
+#[inline]
+fn mask_of(bit: usize) -> u64 {
+    1 << (bit % WORD)
+}
+
+/// Whether this bit is set, or no word has it.
+#[inline]
+fn is_set(words: &[u64], bit: usize) -> bool {
+    match words.get(bit / WORD) {
+        Some(word) => word & mask_of(bit) != 0,
+        None => true,
+    }
+}
+
+/// Sets this bit, if a word has it.
+#[inline]
+fn set(words: &mut [u64], bit: usize) {
+    if let Some(word) = words.get_mut(bit / WORD) {
+        *word |= mask_of(bit);
+    }
+}
+
+/// The first bit from this one on that is set; the first bit of the word `end` if none before that is.
+fn first_set(words: &[u64], from: usize, end: usize) -> usize {
+    let mut mask = u64::MAX << (from % WORD);
+    'words: for number in from / WORD..end {
+        let Some(word) = words.get(number) else {
+            break;
+        };
+        let bits = word & mask;
+        if bits != 0 {
+            let place = bits.trailing_zeros() as usize;
+            return number.saturating_mul(WORD).saturating_add(place);
+        }
+        mask = u64::MAX;
+    }
+    end.saturating_mul(WORD)
 }
 
 impl Waiter {
-    /// Watches no socket yet, and has room for so many; out of memory where there is none for that.
-    pub fn new<R: Net>(net: &R, alloc: Global, sockets: usize) -> Result<Waiter, AllocError> {
+    /// Watches no socket yet, and has room for those of so many circuits, of the server and of the relays; out of memory
+    /// where there is none for that.
+    pub fn new<R: Net>(net: &R, alloc: Global, circuits: usize) -> Result<Waiter, AllocError>
+        requires { circuits ≤ 1024 }
+    {
+        let words = circuits.div_ceil(WORD);
         Ok(Waiter {
             poll: Poll::new(net).ok(),
-            events: Events::with_capacity(alloc, sockets)?,
-            count: 0,
-            ready: u64::MAX,
+            events: Events::with_capacity(alloc, 2 * circuits + 2 + MAX_RELAYS)?,
+            room: (WORD * words) as u16,
+            ready: Vec::from_elem(alloc, u64::MAX, 2 * words + 1)?,
         })
     }
 
-    /// Watches a socket as well, which gets the next number.
+    /// The first bit of the circuits' sockets of a protocol.
+    #[inline]
+    fn first_of(&self, proto: Proto) -> usize
+        ensures { result < 2 ^ 16 }
+    {
+        match proto {
+            Proto::V4 => 0,
+            Proto::V6 => usize::from(self.room),
+        }
+    }
+
+    /// The bit of the socket with this role.
+    fn bit_of(&self, role: &Role) -> usize {
+        let room = usize::from(self.room);
+        let others = 2 * room;
+        match role {
+            Role::Circuit(circuit, proto) if circuit.index() < room => {
+                self.first_of(*proto) + circuit.index()
+            }
+            Role::Circuit(_, _) => UNWATCHED,
+            Role::Server(Proto::V4) => others,
+            Role::Server(Proto::V6) => others + 1,
+            Role::Relay(relay) => others + 2 + relay.index(),
+        }
+    }
+
+    /// Watches a socket as well.
     pub fn watch(&mut self, socket: &mut DatagramSocket)
         ensures { socket.new ≡ socket.old }
     {
-        let number = self.count;
-        socket.bit = bit(number);
-        self.count = number.saturating_add(1);
+        let bit = self.bit_of(&socket.role);
+        socket.bit = bit;
         let Some(poll) = &self.poll else {
             return;
         };
         let watched = poll
             .registry()
-            .register(&mut socket.socket, Token(number), Interest::READABLE);
+            .register(&mut socket.socket, Token(bit), Interest::READABLE);
         if watched.is_err() {
             self.stop_polling();
         }
@@ -67,23 +135,53 @@ impl Waiter {
     /// The system tells of the sockets no longer.
     fn stop_polling(&mut self) {
         self.poll = None;
-        self.ready = u64::MAX;
+        self.ready.fill(u64::MAX);
     }
 
-    /// Whether one of the sockets with these bits may have a datagram.
-    pub(crate) fn is_ready(&self, bits: u64) -> bool {
-        self.ready & bits != 0
+    /// Whether the socket of this bit may have a datagram.
+    #[inline]
+    pub(crate) fn is_ready(&self, bit: usize) -> bool {
+        is_set(&self.ready, bit)
+    }
+
+    /// Passes over the circuits from `from` on at whose socket of this protocol no datagram waits, as far as the system has
+    /// told, and returns the first other one, or `end` if there is none. It looks at 64 circuits at once.
+    pub fn pass_over(&self, proto: Proto, from: usize, end: usize, history: &mut History) -> usize
+        requires { from ≤ end }
+        ensures from { from ≤ result }
+        ensures end { result ≤ end }
+        ensures idle { history.new.entries ≡ history.old.entries ++ idle_circuits proto from (result - from) }
+        ensures same { history.new.id ≡ history.old.id }
+    {
+        let next = self.next_ready(proto, from, end);
+        history.add_idle(proto, from, next - from);
+        next
+    }
+
+    /// The first circuit from `from` on whose socket of this protocol may have a datagram, or `end`.
+    fn next_ready(&self, proto: Proto, from: usize, end: usize) -> usize
+        requires { from ≤ end }
+        ensures from { from ≤ result }
+        ensures end { result ≤ end }
+    {
+        let first = self.first_of(proto);
+        let beyond = first + usize::from(self.room);
+        let set = first_set(&self.ready, first.saturating_add(from), beyond / WORD);
+        set.saturating_sub(first).max(from).min(end)
     }
 
     /// A datagram was sent to this socket: it may have one now, whether or not the system has told of it.
     pub fn mark_ready(&mut self, socket: &DatagramSocket) {
-        self.ready |= socket.bit;
+        set(&mut self.ready, socket.bit);
     }
 
     /// A receive found the socket of this bit empty.
-    pub(crate) fn found_empty(&mut self, bit: u64) {
-        if self.poll.is_some() && bit != SHARED {
-            self.ready &= !bit;
+    pub(crate) fn found_empty(&mut self, bit: usize) {
+        if self.poll.is_none() {
+            return;
+        }
+        if let Some(word) = self.ready.get_mut(bit / WORD) {
+            *word &= !mask_of(bit);
         }
     }
 
@@ -97,8 +195,8 @@ impl Waiter {
             return false;
         }
         'events: for event in self.events.iter() {
-            let Token(number) = event.token();
-            self.ready |= bit(number);
+            let Token(bit) = event.token();
+            set(&mut self.ready, bit);
         }
         true
     }

@@ -1,4 +1,4 @@
--- The value has no bytes, and its list is that of `self` with one entry more. By hand, since a struct with ghost data has no generated proof.
+-- The value has no bytes, and its list is that of `self` and what is added. By hand, since a struct with ghost data has no generated proof.
 use Rattle.std.proofs.Common.{List, [], ◌∷◌, ◌++◌, refl}
 use seplogic.Ra.Ura.{Ura}
 use mir.Syntax.{Fn}
@@ -26,7 +26,7 @@ use denote.Triple.Entry.{alive}
 use denote.Triple.Spec.{Meets, triple_of}
 use denote.Triple.Table.{entered}
 use denote.Triple.Walked.{says, Stays, stay_dropped, walk_of, ends_at, walk_Meets, Goes-dropped}
-use Rattle.udp.specs.History.{entry_of, with_entry}
+use Rattle.udp.specs.History.{entries_of}
 use Rattle.udp.specs.contracts.history.Entries as T
 use Rattle.udp.specs.contracts.history.Happened as W
 use Rattle.udp.specs.contracts.history.Entries.then as F
@@ -66,7 +66,7 @@ module _ {M : Type 1} {𝓤 : Ura M} (𝓛 : Logic 𝓤) (at_mem : Memory → SP
         let vss = z.0.4 in
         let u : Val = vptr a.0.ref_ptr.0 a.0.ref_ptr.1 in
         let v : Val = vptr a.1.0.ref_ptr.0 a.1.0.ref_ptr.1 in
-        let longer : (T.the_row).Denot = record { marker = record {}; list = with_entry (entry_of a.1.0.now) a.0.now.list } in
+        let longer : (T.the_row).Denot = record { marker = record {}; list = a.0.now.list ++ entries_of a.1.0.now } in
         qed 𝓛 ((raw toks ⊛ ‵ (owns (types_at ended.signature.params z.0.0) a vss)) ∷ raw ((held z.0.0 a).requires z.1) ∷ []) ∵
         keep ! (0 ∷ []) $ split ! $ move ! (1 ∷ []) $ fsplit ! $ fsplit ! $ feq_l ! (λ is₀. drop ! $ fsplit ! $ fsplit ! $ feq_l ! (λ is₁. drop ! $ drop ! $
         regoal ! (λ (us : List Val). prop (WpFn 𝓤 H C Λ function (us ++ (vss.1.0 ++ [])) Post)) is₀ refl $
