@@ -56,9 +56,9 @@ ServesEach topology = (c : ℕ) → c < length topology.circuits → serves topo
 -- Each circuit and each relay has its sockets, which have their roles, their addresses and this history, each circuit has a region, and each is served.
 abbrev pub IsAccess : Topology → Sockets → ServerValue → ℕ → ℕ → ℕ → ℕ → Source → Source → Type 0
 IsAccess topology sockets server regions port batch history listen4 listen6 =
-    (length sockets.circuits.items ≡ length topology.circuits) × (length sockets.circuits.items ≤ 16) × All (λ circuit. circuit.relay < length sockets.relays.items) sockets.circuits.items
+    (length sockets.circuits.items ≡ length topology.circuits) × (length sockets.circuits.items ≤ 1024) × All (λ circuit. circuit.relay < length sockets.relays.items) sockets.circuits.items
     × (length sockets.relays.items ≡ length topology.relays) × (length sockets.relays.items ≤ 8) × HasRegions server.topology.circuits regions × AreBound topology port history sockets × ServesEach topology
-    × (listen4 ≡ topology.listen4) × (listen6 ≡ topology.listen6) × (port ≤ 65472) × (batch ≤ 16)
+    × (listen4 ≡ topology.listen4) × (listen6 ≡ topology.listen6) × (port + 4 * length topology.circuits ≤ 65536) × (batch ≤ 16)
 
 -- what is said where a server can't be opened, and where a socket can't
 abbrev pub opening_fault : OpenFault → AccessFault
@@ -75,6 +75,7 @@ RefusesSocket Bound fault.Memory = ⊤
 RefusesSocket Bound fault.Disk = ⊤
 RefusesSocket Bound (fault.Socket at) = Bound at
 RefusesSocket Bound fault.TooManyCircuits = ⊤
+RefusesSocket Bound fault.Ports = ⊤
 
 -- Relay and server of this configuration, over this device, before the first turn: they go on with the history of their sockets.
 pub record IsOpenedAccess (config : Settings) (disk : FileDiskValue) (port batch : ℕ) (opening : List Entry) (access : AccessValue) : Type 0 where
@@ -85,7 +86,7 @@ pub record IsOpenedAccess (config : Settings) (disk : FileDiskValue) (port batch
   pub formats : length access.formats ≡ length config.circuits
   pub reads : access.disk.reads ≤ disk.reads + 6 * length config.circuits
   pub writes : access.disk.writes ≤ disk.writes + 4 * length config.circuits
-  pub tally : access.tally ≡ nothing_taken
+  pub tally : access.tally ≡ nothing_taken (length config.circuits)
   pub port_is : access.port ≡ port
   pub batch_is : access.batch ≡ batch
   pub first : access.first ≡ V4

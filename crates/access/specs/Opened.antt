@@ -2,6 +2,7 @@
 use Rattle.std.specs.Prelude.{◌≡◌, ◌≤◌, ◌<◌, ◌+◌, ◌*◌, ℕ, All, length}
 use Rattle.config.specs.CircuitPart.{parts_of}
 use Rattle.config.specs.Topology.{IsTopology, topology_of}
+use Rattle.counts.specs.Tally.{nothing_taken}
 use Rattle.dispatch.specs.Regions.{HasRegions}
 use Rattle.lease_disk.specs.FileDisk.{FileDiskValue}
 use Rattle.settings.specs.Settings.{Settings}
@@ -20,6 +21,7 @@ pub record IsEngine (config : Settings) (disk : FileDiskValue) (engine : Engine)
   pub formats : length engine.formats.items ≡ length config.circuits
   pub reads : engine.disk.reads ≤ disk.reads + 6 * length config.circuits
   pub writes : engine.disk.writes ≤ disk.writes + 4 * length config.circuits
+  pub tally : engine.tally ≡ nothing_taken (length config.circuits)
 
 -- Each circuit and each relay of this configuration has its sockets, which have this history, and each circuit's relay is there.
 pub record AreSocketsOf (config : Settings) (port history : ℕ) (sockets : Sockets) : Type 0 where

@@ -1,5 +1,5 @@
 //! Relay and server over sockets.
-ghost use Rattle.std.specs.Prelude.{◌≡◌, ◌≤◌, ◌<◌, ◌+◌, ◌↔◌, ℕ, [], length, map, true};
+ghost use Rattle.std.specs.Prelude.{◌≡◌, ◌≤◌, ◌<◌, ◌+◌, ◌*◌, ◌↔◌, ℕ, [], length, map, true};
 ghost use Rattle.std.specs.Prelude.{is_some, Some, slice_get, Err, IfOk, IfErr};
 ghost use Rattle.access.specs.Access.{HasCarried, HasCounted, HasReached, HasServed, HasServedTurns, HasTurned};
 ghost use Rattle.access.specs.Access.{IsOpenedAccess, RefusesSocket, StayClosed, StaysSetUp, books_at};
@@ -20,6 +20,7 @@ mod pass;
 
 use crate::batch::Batch;
 use crate::clock::moment;
+use crate::options::ServeOptions;
 use crate::sending::send_on;
 use config::Config;
 use counts::{CircuitCounts, Counts, Fate, Tally};
@@ -27,7 +28,7 @@ use dispatch::{OpenFault, Server};
 use lease_disk::{FORMAT, FileDisk, OLD_FORMAT};
 use opening::{Formats, open_server};
 use relay::Relays;
-use sockets::{MAX_SERVED, MAX_SOCKETS, SocketFault, Sockets, client, proto_of, put_front};
+use sockets::{SocketFault, Sockets, client, proto_of, put_front};
 use std::alloc::Global;
 use std::marker::Model;
 use std::mem;
@@ -50,9 +51,12 @@ pub enum AccessFault {
     /// No socket could be bound to this address and port.
     #[error("no socket can be bound to an address")]
     Socket(Source),
-    /// There are more than 16 circuits.
-    #[error("more than 16 circuits")]
+    /// There are more circuits than are served at most.
+    #[error("more circuits than are served")]
     TooManyCircuits,
+    /// A circuit has a port that there is none of.
+    #[error("a circuit's port is past 65535")]
+    Ports,
 }
 
 impl From<OpenFault> for AccessFault {
@@ -143,16 +147,19 @@ struct Engine {
     server: Server,
     disk: FileDisk,
     formats: Formats,
+    tally: Tally,
 }
 
-/// Opens server and relays of a configuration of at most 16 circuits over a device.
+/// Opens server and relays of a configuration over a device.
 fn open_engine(alloc: Global, config: &Config, mut disk: FileDisk) -> Result<Engine, OpenFault>
-    requires few { length config.now.circuits ≤ 16 }
     ensures engine { IfOk result (IsEngine config.now disk) }
     ensures small { IfErr result (λ why. why ≡ open_fault.DiskTooSmall → ¬ HasRegions (parts_of config.now) disk.regions) }
 {
     // first, so that the device is as it was where their memory is refused
     let Ok(relays) = Relays::new(alloc, config) else {
+        return Err(OpenFault::Memory);
+    };
+    let Ok(tally) = Tally::new(alloc, config.circuit_count()) else {
         return Err(OpenFault::Memory);
     };
     let (server, formats) = open_server(alloc, config, &mut disk)?;
@@ -161,6 +168,7 @@ fn open_engine(alloc: Global, config: &Config, mut disk: FileDisk) -> Result<Eng
         server,
         disk,
         formats,
+        tally,
     })
 }
 
@@ -172,36 +180,47 @@ fn bind_sockets<R: Net>(
     port: u16,
     history: &mut History,
 ) -> Result<(Sockets, Waiter), SocketFault>
-    requires few { length config.now.circuits ≤ 16 }
-    requires most { port ≤ 65472 }
+    requires ports { port + 4 * length config.now.circuits ≤ 65536 }
     ensures bound { IfOk result (λ made. AreSocketsOf config.now port history.old.id made.0) }
     ensures same { history.new.id ≡ history.old.id }
     ensures silent { IfOk result (λ _. history.new.entries ≡ history.old.entries) }
     ensures refused { IfErr result (Refuses (λ at. IsSocket config.now port at × WasRefused history.old.entries history.new.entries at)) }
 {
-    let Ok(mut waiter) = Waiter::new(net, alloc, MAX_SOCKETS) else {
+    let Ok(mut waiter) = Waiter::new(net, alloc, config.circuit_count()) else {
         return Err(SocketFault::Memory);
     };
     let sockets = Sockets::bind(net, alloc, config, port, &mut waiter, history)?;
     Ok((sockets, waiter))
 }
 
-/// Whether the system binds each socket of a configuration now; all are given back at once. More than 16 circuits are refused
-/// first, then an address (`Socket`); `Memory` is out of memory.
+/// Whether there are the ports of each circuit, when the first one's begin at `port`.
+fn has_ports(config: &Config, port: u16) -> bool
+    ensures { (result ≡ true) ↔ (port + 4 * length config.now.circuits ≤ 65536) }
+{
+    usize::from(port) + 4 * config.circuit_count() <= 65536
+}
+
+/// Whether the system binds each socket of a configuration now; all are given back at once. More circuits than are served at
+/// most are refused first, then a port past the last one (`Ports`), then an address (`Socket`); `Memory` is out of memory.
 pub fn try_sockets<R: Net>(
     net: &R,
     alloc: Global,
     config: &Config,
-    port: u16,
+    options: ServeOptions,
 ) -> Result<(), AccessFault>
-    requires most { port ≤ 65472 }
-    ensures circuits { result ≡ Err fault.TooManyCircuits ↔ (16 < length config.now.circuits) }
+    ensures circuits { result ≡ Err fault.TooManyCircuits ↔ (options.most_circuits < length config.now.circuits) }
+    ensures ports { result ≡ Err fault.Ports
+        ↔ (length config.now.circuits ≤ options.most_circuits)
+        × (65536 < options.port + 4 * length config.now.circuits) }
 {
-    if config.circuit_count() > MAX_SERVED {
+    if config.circuit_count() > usize::from(options.most_circuits) {
         return Err(AccessFault::TooManyCircuits);
     }
+    if !has_ports(config, options.port) {
+        return Err(AccessFault::Ports);
+    }
     let mut opening = History::new();
-    bind_sockets(net, alloc, config, port, &mut opening)?;
+    bind_sockets(net, alloc, config, options.port, &mut opening)?;
     Ok(())
 }
 
@@ -214,38 +233,42 @@ pub trait Watch {
 impl Access {
     /// Opens relay and server of a configuration over a device, whatever that holds. A region of format 1 is
     /// moved to format 2; a circuit whose region can't be read, is damaged or can't be moved is closed, alone.
-    /// The first circuit listens on 127.0.0.1 at `port` for DHCPv4 frames and at the port after it for DHCPv6 frames, and frames
-    /// towards it go to the two ports after these; the ports of each other circuit come 4 later. The server takes at most
-    /// `batch` datagrams in a turn, and saves what they change together.
+    /// The first circuit listens on 127.0.0.1 at the first port for DHCPv4 frames and at the port after it for DHCPv6 frames,
+    /// and frames towards it go to the two ports after these; the ports of each other circuit come 4 later. What the datagrams
+    /// of a turn change at the server is saved together.
     ///
-    /// More than 16 circuits are refused first, then a device without the region of a circuit, then
-    /// an address that the system refuses to bind a socket to, which `opening` then has. What was opened goes on with that
-    /// history, and leaves a new one in its place.
+    /// More circuits than are served at most are refused first, then a port past the last one, then a device without the region
+    /// of a circuit, then an address that the system refuses to bind a socket to, which `opening` then has. What was opened goes
+    /// on with that history, and leaves a new one in its place.
     pub fn open<R: Net>(
         net: &R,
         alloc: Global,
         config: &Config,
         disk: FileDisk,
-        port: u16,
-        batch: u8,
+        options: ServeOptions,
         opening: &mut History,
     ) -> Result<Access, AccessFault>
-        requires most { port ≤ 65472 }
-        requires some { 1 ≤ batch }
-        requires few { batch ≤ 16 }
-        ensures opened { IfOk result (IsOpenedAccess config.now disk port batch opening.old.entries) }
-        ensures circuits { result ≡ Err fault.TooManyCircuits ↔ (16 < length config.now.circuits) }
+        requires some { 1 ≤ options.batch }
+        requires few { options.batch ≤ 16 }
+        ensures opened { IfOk result (IsOpenedAccess config.now disk options.port options.batch opening.old.entries) }
+        ensures circuits { result ≡ Err fault.TooManyCircuits ↔ (options.most_circuits < length config.now.circuits) }
+        ensures ports { result ≡ Err fault.Ports
+            ↔ (length config.now.circuits ≤ options.most_circuits)
+            × (65536 < options.port + 4 * length config.now.circuits) }
         ensures small { IfErr result (λ why. why ≡ fault.Disk → ¬ HasRegions (parts_of config.now) disk.regions) }
         ensures socket { IfErr result (RefusesSocket (λ at.
-            IsSocket config.now port at × HasRegions (parts_of config.now) disk.regions
+            IsSocket config.now options.port at × HasRegions (parts_of config.now) disk.regions
             × WasRefused opening.old.entries opening.new.entries at)) }
         ensures bound { IfOk result (λ _. opening.new.entries ≡ []) }
     {
-        if config.circuit_count() > MAX_SERVED {
+        if config.circuit_count() > usize::from(options.most_circuits) {
             return Err(AccessFault::TooManyCircuits);
         }
+        if !has_ports(config, options.port) {
+            return Err(AccessFault::Ports);
+        }
         let engine = open_engine(alloc, config, disk)?;
-        let (sockets, waiter) = match bind_sockets(net, alloc, config, port, opening) {
+        let (sockets, waiter) = match bind_sockets(net, alloc, config, options.port, opening) {
             Ok(bound) => bound,
             Err(why) => {
                 // by a call: all that it holds would otherwise be part of this function's proof
@@ -263,9 +286,9 @@ impl Access {
             listen6: config.server().listen6,
             buffer: [0; BUFFER_LEN],
             out: PacketBuf::new(),
-            batch: Batch::new(usize::from(batch)),
-            port,
-            tally: Tally::new(),
+            batch: Batch::new(usize::from(options.batch)),
+            port: options.port,
+            tally: engine.tally,
             // the sockets were bound with it
             history: mem::replace(opening, History::new()),
             turns: Count::new(),
@@ -297,7 +320,7 @@ impl Access {
     /// received or sent is lost. Then moves all clocks to this moment. Returns how many datagrams were taken. The system is
     /// asked once at which sockets datagrams arrived; a socket of which it has told nothing is not tried.
     pub fn turn(&mut self, now: Moment) -> u32
-        ensures most { result ≤ 40 + self.old.batch }
+        ensures most { result ≤ 2 * length self.old.topology.circuits + 8 + self.old.batch }
         ensures turned { HasTurned now result self.old self.new }
         ensures set_up { StaysSetUp self.old self.new }
         ensures turns { self.new.turns ≡ self.old.turns + 1 }
@@ -372,7 +395,7 @@ impl Access {
 
     /// Takes a frame from each of the circuits' sockets to its relay.
     fn take_from_circuits(&mut self) -> u32
-        ensures most { result ≤ 32 }
+        ensures most { result ≤ 2 * length self.old.topology.circuits }
         ensures carried { HasCarried (CircuitsSockets self.old.topology) result self.old self.new }
     {
         self.waiter.poll();

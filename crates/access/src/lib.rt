@@ -5,6 +5,7 @@ mod access;
 mod batch;
 mod clock;
 mod datagrams;
+mod options;
 mod polling;
 mod sending;
 
@@ -12,5 +13,6 @@ pub use access::{Access, AccessFault, Watch, try_sockets};
 pub use clock::moment_of;
 pub use counts::{CircuitCounts, Counts, Fate, REASONS};
 pub use opening::{DeviceFault, device_of};
+pub use options::ServeOptions;
 pub use sockets::{Warning, warn};
 pub use udp::History;

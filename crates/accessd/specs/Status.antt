@@ -11,6 +11,7 @@ status_of fault.Memory = 4
 status_of fault.Disk = 4
 status_of (fault.Socket at) = 5
 status_of fault.TooManyCircuits = 2
+status_of fault.Ports = 2
 
 -- why the file does not serve
 abbrev pub device_status : DeviceFault → ℕ

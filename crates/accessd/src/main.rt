@@ -1,7 +1,7 @@
 //! Runs relay and server over UDP sockets on loopback, with the leases kept in a file.
 #![tactic(auto)]
 
-ghost use Rattle.std.specs.Prelude.{◌≡◌, ◌≤◌, ◌⊎◌, ◌*◌, true, false, length, IfErr, IfOk};
+ghost use Rattle.std.specs.Prelude.{◌≡◌, ◌≤◌, ◌⊎◌, ◌+◌, ◌*◌, true, false, length, IfErr, IfOk};
 ghost use Rattle.lease_disk.specs.FileDisk.{uncalled};
 ghost use Rattle.accessd.specs.Status.{IsExitStatus, status_of, device_status};
 
@@ -13,7 +13,9 @@ mod words;
 use crate::reporter::Reporter;
 use crate::text::{circuit_at, id_of, text_of};
 use crate::words::AccessWords;
-use access::{Access, AccessFault, DeviceFault, History, device_of, try_sockets, warn};
+use access::{
+    Access, AccessFault, DeviceFault, History, ServeOptions, device_of, try_sockets, warn,
+};
 use command_line::{
     REFUSED, StandardStreams, UNOPENED, UNREADABLE, complain, complain_of, given_words,
     read_configuration, socket_cause, writing_cause,
@@ -28,6 +30,20 @@ use std::os::unix::fs::MetadataExt;
 use std::process::ExitCode;
 use std::rt::Clock;
 use types::{Addr4, Circuit, RelayNo, Source};
+
+/// The most circuits that are served.
+const MAX_CIRCUITS: u16 = 16;
+
+/// How the words say that relay and server serve.
+fn options_of(values: &AccessWords<'_>) -> ServeOptions
+    ensures { result ≡ record { port = values.now.port; batch = values.now.batch; most_circuits = 16 } }
+{
+    ServeOptions {
+        port: values.port,
+        batch: values.batch,
+        most_circuits: MAX_CIRCUITS,
+    }
+}
 
 /// The status of a device that does not serve.
 fn device_status(fault: DeviceFault) -> u8
@@ -96,13 +112,12 @@ fn may_format_file(rt: &HostRuntime, path: &str, config: &str) -> Result<(), u8>
 /// Whether nothing is in the way of formatting and of what is served afterwards, so that a refusal makes no file and leaves
 /// the one that there is. An error is the status.
 fn may_format(rt: &HostRuntime, config: &Config, values: &AccessWords<'_>) -> Result<(), u8>
-    requires most { values.now.port ≤ 65472 }
     ensures status { IfErr result IsExitStatus }
 {
     may_format_file(rt, values.disk, values.config)?;
-    match try_sockets(rt, rt.alloc(), config, values.port) {
+    match try_sockets(rt, rt.alloc(), config, options_of(values)) {
         Ok(()) => Ok(()),
-        Err(fault) => Err(refuse(rt, config, values.disk, fault)),
+        Err(fault) => Err(refuse(rt, config, values, fault)),
     }
 }
 
@@ -113,7 +128,7 @@ fn device(rt: &HostRuntime, config: &Config, values: &AccessWords<'_>) -> Result
     ensures opens { values.now.format ≡ false → IfOk result (λ disk. disk ≡ uncalled disk.length) }
     ensures status { IfErr result (λ status. (status ≡ 4) ⊎ (status ≡ 5)) }
 {
-    match device_of(rt, values.disk, values.format, config) {
+    match device_of(rt, values.disk, values.format, config, MAX_CIRCUITS) {
         Ok(disk) => Ok(disk),
         Err(fault) => {
             report_device(rt, values.disk, fault, values.format);
@@ -133,13 +148,13 @@ fn bind_cause(rt: &HostRuntime, at: Source) -> Option<&'static str> {
 }
 
 /// Reports why relay and server were not opened, and returns the status.
-fn refuse(rt: &HostRuntime, config: &Config, disk: &str, fault: AccessFault) -> u8
+fn refuse(rt: &HostRuntime, config: &Config, values: &AccessWords<'_>, fault: AccessFault) -> u8
     ensures { result ≡ status_of fault }
 {
     match fault {
         AccessFault::Memory => complain(rt, "open memory", UNOPENED),
         AccessFault::Disk => {
-            let needed = region_count(config);
+            let (disk, needed) = (values.disk, region_count(config));
             let _ = eprintln!(rt; "open disk");
             let _ = eprintln!(rt;
                 "{disk}: {fault}, {needed}; scripts/operate/add-regions lengthens it, see \"Add a circuit\" in docs/OPERATING.md"
@@ -154,7 +169,13 @@ fn refuse(rt: &HostRuntime, config: &Config, disk: &str, fault: AccessFault) -> 
         AccessFault::TooManyCircuits => {
             let count = config.circuit_count();
             let _ = eprintln!(rt; "circuits");
-            let _ = eprintln!(rt; "{count} circuits: {fault}");
+            let _ = eprintln!(rt; "{count} circuits: more than {MAX_CIRCUITS} circuits");
+            REFUSED
+        }
+        AccessFault::Ports => {
+            let last = usize::from(values.port) + 4 * config.circuit_count() - 1;
+            let _ = eprintln!(rt; "ports");
+            let _ = eprintln!(rt; "{last}: {fault}");
             REFUSED
         }
     }
@@ -162,8 +183,7 @@ fn refuse(rt: &HostRuntime, config: &Config, disk: &str, fault: AccessFault) -> 
 
 /// Reports what is wrong with an address, in a line of its own.
 fn report_address(rt: &HostRuntime, config: &Config, port: u16, at: Source)
-    requires few { length config.now.circuits ≤ 16 }
-    requires most { port ≤ 65472 }
+    requires ports { port + 4 * length config.now.circuits ≤ 65536 }
 {
     if let Some(warning) = warn(at, port, config.circuit_count()) {
         let Source { addr, port } = at;
@@ -174,8 +194,7 @@ fn report_address(rt: &HostRuntime, config: &Config, port: u16, at: Source)
 
 /// Warns of each address of the server and the relays that a circuit's ports are at too.
 fn report_addresses(rt: &HostRuntime, config: &Config, port: u16)
-    requires few { length config.now.circuits ≤ 16 }
-    requires most { port ≤ 65472 }
+    requires ports { port + 4 * length config.now.circuits ≤ 65536 }
 {
     report_address(rt, config, port, config.server().listen4);
     report_address(rt, config, port, config.server().listen6);
@@ -256,8 +275,7 @@ fn report_clocks(rt: &HostRuntime, access: &Access) {
 
 /// Reports what is served, takes the turns, and returns the status.
 fn serve(rt: &HostRuntime, config: &Config, values: &AccessWords<'_>, access: &mut Access) -> u8
-    requires few { length config.now.circuits ≤ 16 }
-    requires most { values.now.port ≤ 65472 }
+    requires ports { values.now.port + 4 * length config.now.circuits ≤ 65536 }
     ensures { IsExitStatus result }
 {
     report_addresses(rt, config, values.port);
@@ -274,27 +292,25 @@ fn serve(rt: &HostRuntime, config: &Config, values: &AccessWords<'_>, access: &m
 
 /// Opens relay and server over a device, and serves.
 fn run_over(rt: &HostRuntime, config: &Config, values: &AccessWords<'_>, disk: FileDisk) -> u8
-    requires most { values.now.port ≤ 65472 }
     requires some { 1 ≤ values.now.batch }
     requires few { values.now.batch ≤ 16 }
     ensures { IsExitStatus result }
 {
     let mut opening = History::new();
-    let (port, batch) = (values.port, values.batch);
-    match Access::open(rt, rt.alloc(), config, disk, port, batch, &mut opening) {
+    let options = options_of(values);
+    match Access::open(rt, rt.alloc(), config, disk, options, &mut opening) {
         Ok(mut access) => {
             let status = serve(rt, config, values, &mut access);
             // by a call: all that it holds would otherwise be part of this function's proof
             drop(access);
             status
         }
-        Err(fault) => refuse(rt, config, values.disk, fault),
+        Err(fault) => refuse(rt, config, values, fault),
     }
 }
 
 /// Runs over a configuration, and returns the status.
 fn run_with(rt: &HostRuntime, config: &Config, values: &AccessWords<'_>) -> u8
-    requires most { values.now.port ≤ 65472 }
     requires some { 1 ≤ values.now.batch }
     requires few { values.now.batch ≤ 16 }
     ensures { IsExitStatus result }
@@ -312,7 +328,6 @@ fn run_with(rt: &HostRuntime, config: &Config, values: &AccessWords<'_>) -> u8
 
 /// Runs as the words say, and returns the status.
 fn run(rt: &HostRuntime, values: AccessWords<'_>) -> u8
-    requires most { values.port ≤ 65472 }
     requires some { 1 ≤ values.batch }
     requires few { values.batch ≤ 16 }
     ensures { IsExitStatus result }

@@ -3,10 +3,9 @@ use Rattle.std.proofs.Common.{◌≡◌, ◌≢◌, ◌∙◌, ◌==◌, ℕ, ze
 use Rattle.std.specs.Prelude.{Option, Some, None, option_map, slice_get, if◌then◌else◌}
 use Rattle.std.proofs.lemmas.Bool.{eqb-true, eqb-false}
 use Rattle.std.specs.List.{cons_option}
-use Rattle.counts.specs.CircuitCounts.{counted_at, counted_for}
+use Rattle.counts.specs.CircuitCounts.{CircuitCountsValue, counted_at, counted_for}
 use Rattle.counts.specs.Counts.{counted, counted_all}
 use Rattle.counts.specs.Tally.{CircuitFate, counted_by, fates_of, own_fate, tallied, tallied_all}
-use Rattle.counts.specs.declared.circuit_counts.CircuitCounts.{CircuitCounts}
 use Rattle.counts.specs.declared.counts.Counts.{Counts}
 use Rattle.counts.specs.declared.counts.Fate.{Fate}
 use Rattle.counts.specs.declared.tally.Tally.{Tally}
@@ -47,7 +46,7 @@ for_one c k became counts = by (k == c) refl where
   by true same = subst (λ n. slice_get (counted_for n became counts) c ≡ option_map (counted became) (slice_get counts c)) (sym (eqb-true k c same)) (for_same c became counts)
   by false other = for_other c k became counts (eqb-false k c other) ∙ same_option (slice_get counts c)
 
-by_one : (c : ℕ) (circuit : Option ℕ) (became : Fate) (counts : CircuitCounts) → slice_get (counted_by circuit became counts).circuits c ≡ option_map (more (own_fate c circuit became)) (slice_get counts.circuits c)
+by_one : (c : ℕ) (circuit : Option ℕ) (became : Fate) (counts : CircuitCountsValue) → slice_get (counted_by circuit became counts).circuits c ≡ option_map (more (own_fate c circuit became)) (slice_get counts.circuits c)
 by_one c None became counts = same_option (slice_get counts.circuits c)
 by_one c (Some k) became counts = for_one c k became counts.circuits
 

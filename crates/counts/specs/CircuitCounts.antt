@@ -4,6 +4,10 @@ use Rattle.counts.specs.Counts.{counted}
 use Rattle.counts.specs.declared.counts.Counts.{Counts}
 use Rattle.counts.specs.declared.counts.Fate.{Fate}
 
+-- what is counted for each circuit, by its index
+pub record CircuitCountsValue : Type 0 where
+  pub circuits : List Counts
+
 -- one more datagram for what is counted in a place, if there is one
 abbrev pub counted_at : List Counts → ℕ → Fate → Option Counts → List Counts
 counted_at counts c became None = counts

@@ -1,9 +1,8 @@
 -- What became of datagrams, with the circuits that they are counted for.
 use Rattle.std.specs.Prelude.{ℕ, ◌==◌, List, [], ◌∷◌, Option, Some, None, if◌then◌else◌, replicate}
 use Rattle.std.specs.List.{filter_map}
-use Rattle.counts.specs.CircuitCounts.{counted_for}
+use Rattle.counts.specs.CircuitCounts.{CircuitCountsValue, counted_for}
 use Rattle.counts.specs.Counts.{counted, none}
-use Rattle.counts.specs.declared.circuit_counts.CircuitCounts.{CircuitCounts}
 use Rattle.counts.specs.declared.counts.Fate.{Fate}
 use Rattle.counts.specs.declared.tally.Tally.{Tally}
 
@@ -15,12 +14,12 @@ pub record CircuitFate : Type 0 where
 abbrev pub circuit_fate : Option ℕ → Fate → CircuitFate
 circuit_fate circuit became = record { circuit = circuit; became = became }
 
--- nothing was taken yet
-abbrev pub nothing_taken : Tally
-nothing_taken = record { all = none; by_circuit = record { circuits = replicate 16 none } }
+-- nothing was taken yet of any of so many circuits
+abbrev pub nothing_taken : ℕ → Tally
+nothing_taken circuits = record { all = none; by_circuit = record { circuits = replicate circuits none } }
 
 -- one more datagram for the circuit that it is counted for; one that is counted for none changes nothing
-abbrev pub counted_by : Option ℕ → Fate → CircuitCounts → CircuitCounts
+abbrev pub counted_by : Option ℕ → Fate → CircuitCountsValue → CircuitCountsValue
 counted_by None became counts = counts
 counted_by (Some c) became counts = record { circuits = counted_for c became counts.circuits }
 

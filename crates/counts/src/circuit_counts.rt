@@ -1,37 +1,43 @@
 //! What became of the datagrams of each circuit.
-ghost use Rattle.std.specs.Prelude.{◌≡◌, ◌<◌, option_map, replicate, slice_get};
+ghost use Rattle.std.specs.Prelude.{◌≡◌, option_map, replicate, slice_get, IfOk};
 ghost use Rattle.counts.specs.CircuitCounts.{counted_for};
 ghost use Rattle.counts.specs.Counts.{none};
 
 use crate::counts::{Counts, Fate};
+use std::alloc::{AllocError, Global};
+use std::marker::Model;
 use types::Circuit;
 
-/// How many circuits are counted, the first ones.
-pub const COUNTED_CIRCUITS: usize = 16;
-
-/// What became of the datagrams of each of the first 16 circuits, by their indices.
-#[derive(Clone, Copy)]
+/// What became of the datagrams of each circuit, by their indices. The memory for it is taken when it is made.
+#[derive(Drop)]
 pub struct CircuitCounts {
-    circuits: [Counts; COUNTED_CIRCUITS],
+    circuits: Vec<Counts>,
+}
+
+impl Model for CircuitCounts {
+    ghost use Rattle.counts.specs.CircuitCounts.{CircuitCountsValue};
+
+    ghost Value = { CircuitCountsValue };
+
+    ghost view = { λ c. record { circuits = c.circuits.items } };
 }
 
 impl CircuitCounts {
-    /// Nothing was taken yet.
-    pub fn new() -> CircuitCounts
-        ensures { result.circuits ≡ replicate 16 none }
+    /// Nothing was taken yet of any of so many circuits. An error where memory is refused.
+    pub fn new(alloc: Global, circuits: usize) -> Result<CircuitCounts, AllocError>
+        ensures { IfOk result (λ made. made.circuits ≡ replicate circuits none) }
     {
-        CircuitCounts {
-            circuits: [Counts::new(); COUNTED_CIRCUITS],
-        }
+        let circuits = Vec::from_elem(alloc, Counts::new(), circuits)?;
+        Ok(CircuitCounts { circuits })
     }
 
-    /// One more datagram of this circuit was taken, and this became of it. Nothing is counted for the circuits after the
-    /// first 16.
+    /// One more datagram of this circuit was taken, and this became of it. Nothing is counted for a circuit that is none of
+    /// those that are counted.
     pub fn count_for(&mut self, circuit: Circuit, became: Fate)
         ensures { self.new.circuits ≡ counted_for circuit became self.old.circuits }
     {
         let index = circuit.index();
-        if index < COUNTED_CIRCUITS {
+        if index < self.circuits.len() {
             self.circuits[index].count(became);
         }
     }

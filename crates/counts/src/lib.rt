@@ -6,6 +6,6 @@ mod counts;
 pub mod laws;
 mod tally;
 
-pub use circuit_counts::{COUNTED_CIRCUITS, CircuitCounts};
+pub use circuit_counts::CircuitCounts;
 pub use counts::{Counts, Fate, REASONS};
 pub use tally::Tally;

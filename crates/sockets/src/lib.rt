@@ -6,5 +6,5 @@ mod sockets;
 mod warnings;
 
 pub use frame::{proto_of, put_front};
-pub use sockets::{CircuitSockets, MAX_SERVED, MAX_SOCKETS, SocketFault, Sockets, client};
+pub use sockets::{CircuitSockets, SocketFault, Sockets, client};
 pub use warnings::{Warning, warn};

@@ -13,12 +13,6 @@ use thiserror::Error;
 use types::{Addr4, Circuit, Proto, RelayNo, Source};
 use udp::{BindFault, DatagramSocket, History, Role, Waiter};
 
-/// The most circuits that are served.
-pub const MAX_SERVED: usize = 16;
-
-/// How many sockets there are at most: two of each circuit and the server, and one of each relay.
-pub const MAX_SOCKETS: usize = 2 * MAX_SERVED + 2 + 8;
-
 /// Ports of one circuit: two where it listens, and two where its frames go.
 const PORTS: u16 = 4;
 
@@ -68,8 +62,7 @@ pub fn local(port: u16) -> Source
 
 /// Where frames of a protocol towards a circuit go. Each circuit has four ports, the first one's begin at `port`.
 pub fn client(port: u16, circuit: Circuit, proto: Proto) -> Source
-    requires circuit { circuit < 16 }
-    requires most { port ≤ 65472 }
+    requires ports { port + 4 * circuit ≤ 65532 }
     ensures { result ≡ client_port port circuit proto }
 {
     let first = port + PORTS * circuit.index() as u16;
@@ -113,9 +106,9 @@ impl CircuitSockets {
         waiter: &mut Waiter,
         history: &mut History,
     ) -> Result<CircuitSockets, SocketFault>
-        requires few { length config.now.circuits ≤ 16 }
+        requires few { length config.now.circuits ≤ 1024 }
         requires index { index < length config.now.circuits }
-        requires most { port ≤ 65472 }
+        requires ports { port + 4 * length config.now.circuits ≤ 65536 }
         ensures behind { IfOk result (λ circuit. circuit.relay < length config.now.relays) }
         ensures relay { IfOk result (λ circuit.
             option_map (λ values. values.relay) (slice_get config.now.circuits index) ≡ Some circuit.relay) }
@@ -167,8 +160,7 @@ fn bind_circuits<R: Net>(
     waiter: &mut Waiter,
     history: &mut History,
 ) -> Result<Vec<CircuitSockets>, SocketFault>
-    requires few { length config.now.circuits ≤ 16 }
-    requires most { port ≤ 65472 }
+    requires ports { port + 4 * length config.now.circuits ≤ 65536 }
     ensures count { IfOk result (λ circuits. length circuits.items ≡ length config.now.circuits) }
     ensures behind { IfOk result (λ circuits. All (λ circuit. circuit.relay < length config.now.relays) circuits.items) }
     ensures own { IfOk result (λ circuits.
@@ -241,8 +233,7 @@ impl Sockets {
         waiter: &mut Waiter,
         history: &mut History,
     ) -> Result<Sockets, SocketFault>
-        requires few { length config.now.circuits ≤ 16 }
-        requires most { port ≤ 65472 }
+        requires ports { port + 4 * length config.now.circuits ≤ 65536 }
         ensures circuits { IfOk result (λ sockets. length sockets.circuits.items ≡ length config.now.circuits) }
         ensures relays { IfOk result (λ sockets. length sockets.relays.items ≡ length config.now.relays) }
         ensures behind { IfOk result (λ sockets. All (λ circuit. circuit.relay < length config.now.relays) sockets.circuits.items) }

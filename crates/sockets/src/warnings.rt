@@ -1,5 +1,5 @@
 //! Addresses that the system accepts, though they serve nobody, or too many.
-ghost use Rattle.std.specs.Prelude.{◌≡◌, ◌≤◌, IfSome, IfNone};
+ghost use Rattle.std.specs.Prelude.{◌≡◌, ◌≤◌, ◌+◌, ◌*◌, IfSome, IfNone};
 ghost use Rattle.sockets.specs.Warnings.{IsClients, IsNoClients, IsWarned, is_group};
 
 use crate::sockets::client;
@@ -29,8 +29,8 @@ fn is_group(addr: Addr4) -> bool
 
 /// The circuit towards whose clients frames go to this address.
 fn clients_at(at: Source, port: u16, circuits: usize) -> Option<Circuit>
-    requires few { circuits ≤ 16 }
-    requires most { port ≤ 65472 }
+    requires few { circuits ≤ 1024 }
+    requires ports { port + 4 * circuits ≤ 65536 }
     ensures some { IfSome result (IsClients port circuits at) }
     ensures none { IfNone result (IsNoClients port circuits at) }
 {
@@ -45,8 +45,8 @@ fn clients_at(at: Source, port: u16, circuits: usize) -> Option<Circuit>
 
 /// What is wrong with an address of the server or of a relay, where so many circuits have their ports from `port` on.
 pub fn warn(at: Source, port: u16, circuits: usize) -> Option<Warning>
-    requires few { circuits ≤ 16 }
-    requires most { port ≤ 65472 }
+    requires few { circuits ≤ 1024 }
+    requires ports { port + 4 * circuits ≤ 65536 }
     ensures { IsWarned port circuits at result }
 {
     if at.addr.is_unspecified() {

@@ -1,4 +1,4 @@
-use Rattle.std.proofs.Common.{◌≡◌, ◌≤◌, ◌<◌, length, map}
+use Rattle.std.proofs.Common.{◌≡◌, ◌≤◌, ◌<◌, ◌+◌, ◌*◌, length, map}
 use Rattle.std.specs.Prelude.{All}
 use Rattle.config.specs.CircuitPart.{parts_of}
 use Rattle.sockets.specs.Sockets.{AreOwnSockets}
@@ -8,8 +8,8 @@ abbrev pub invariant-circuits : goal.invariant-circuits
 invariant-circuits g l = record {
   index : l.index ≤ l.index-end;
   end : l.index-end ≡ length l.config.circuits;
-  few : length l.config.circuits ≤ 16;
-  port : l.port ≤ 65472;
+  few : length l.config.circuits ≤ 1024;
+  ports : l.port + 4 * length l.config.circuits ≤ 65536;
   count : length l.circuits.items ≡ l.index;
   behind : All (λ circuit. circuit.relay < length l.config.relays) l.circuits.items;
   own : AreOwnSockets (map (λ relay. relay.source) l.config.relays) l.port l.fn.history.id (parts_of l.config) l.circuits.items;

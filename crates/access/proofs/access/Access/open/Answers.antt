@@ -23,8 +23,8 @@ invariant_of-result g c =
       bound.relays ∙ sym (ap (λ (t : Topology). length t.relays) topology ∙ length-map config.relays _),
       search rules,
       subst (λ (t : Topology). HasRegions t.circuits c.in_ok-engine.engine.disk.regions) (sym engine.served) engine.large,
-      subst (λ (h : ℕ). AreBound c.in_ok-engine.engine.relays.topology c.args.port h c.in-Ok.bound.0) (sym (ap (λ (h : HistoryValue). h.id) c.replace.ensures.value ∙ c.in-Ok.ensures.same))
-          (subst (λ (t : Topology). AreBound t c.args.port c.args.opening.now.id c.in-Ok.bound.0) (sym topology) bound.bound),
+      subst (λ (h : ℕ). AreBound c.in_ok-engine.engine.relays.topology c.args.options.port h c.in-Ok.bound.0) (sym (ap (λ (h : HistoryValue). h.id) c.replace.ensures.value ∙ c.in-Ok.ensures.same))
+          (subst (λ (t : Topology). AreBound t c.args.options.port c.args.opening.now.id c.in-Ok.bound.0) (sym topology) bound.bound),
       subst ServesEach (sym topology) (serves_each config),
       search rules,
       search rules,
@@ -38,6 +38,6 @@ returns-in-Err-clause-socket g c =
     let config = c.args.config.now in
     let engine = c.in_ok-engine.ensures.engine in
     let regions = subst (HasRegions (parts_of config)) engine.count engine.large in
-    let Bound = λ (at : Source). IsSocket config c.args.port at × WasRefused c.args.opening.now.entries c.bind_sockets.new.history.entries at in
-    let Socket = λ (at : Source). IsSocket config c.args.port at × HasRegions (parts_of config) c.args.disk.regions × WasRefused c.args.opening.now.entries c.bind_sockets.new.history.entries at in
+    let Bound = λ (at : Source). IsSocket config c.args.options.port at × WasRefused c.args.opening.now.entries c.bind_sockets.new.history.entries at in
+    let Socket = λ (at : Source). IsSocket config c.args.options.port at × HasRegions (parts_of config) c.args.disk.regions × WasRefused c.args.opening.now.entries c.bind_sockets.new.history.entries at in
     subst (RefusesSocket Socket) (sym c.from.ensures) (socket_refuses Bound Socket c.in-Err.why (λ at refused. (refused.0, regions, refused.1)) c.in-Err.ensures.refused)
