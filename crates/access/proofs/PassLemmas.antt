@@ -1,5 +1,5 @@
 -- What a pass keeps, and how much it takes.
-use Rattle.std.proofs.Common.{inl, inr, ◌≡◌, ◌∙◌, ◌+◌, ◌*◌, ◌<◌, ◌≤◌, ◌==◌, ℕ, zero, suc, Bool, true, false, refl, sym, ap, subst, [], length, map, arith}
+use Rattle.std.proofs.Common.{inl, inr, ◌≡◌, ◌∙◌, ◌+◌, ◌*◌, ◌<◌, ◌≤◌, ◌==◌, ℕ, zero, suc, Bool, true, false, refl, sym, ap, subst, List, [], length, map, arith}
 use Rattle.std.specs.Prelude.{◌⊎◌, Some, None, slice_get}
 use Rattle.types.specs.declared.dest.Proto.{Proto}
 use Rattle.types.specs.declared.dest.Proto.TheVariants.{V4, V6}
@@ -159,10 +159,12 @@ passed_closed now n old new p c closed =
 
 -- one pass more, at the moment of the next reading
 pub passed_once : (n before now count : ℕ) (old middle inside new : AccessValue) (history : List Entry) → HasMadePasses n before old middle → inside ≡ middle
-    → HasRead before now inside.history history → HasPassed now count (record inside { history = history }) new → HasMadePasses (n + 1) now old new
-passed_once n before now count old middle inside new history were same read pass =
+    → HasRead before now inside.history history → HasPassed now count (record inside { history = history }) new → count ≤ 38 * (length inside.topology.circuits + 15)
+    → HasMadePasses (n + 1) now old new
+passed_once n before now count old middle inside new history were same read pass most =
+    let few = subst (λ (s : AccessValue). count ≤ 38 * (length s.topology.circuits + 15)) same most in
     let reads = subst (λ (s : AccessValue). HasRead before now s.history history) same read in
     let passed = subst (λ (s : AccessValue). HasPassed now count (record s { history = history }) new) same pass in
     let more : suc n ≡ n + 1 = omega arith in
-    let once : HasMadePasses (suc n) now old new = (before, middle, were, record { read = record middle { history = history }; count = count; reads = reads; rest = refl; pass = passed }) in
+    let once : HasMadePasses (suc n) now old new = (before, middle, were, record { read = record middle { history = history }; count = count; reads = reads; rest = refl; pass = passed; few = few }) in
     subst (λ k. HasMadePasses k now old new) more once
