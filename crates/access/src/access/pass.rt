@@ -65,7 +65,7 @@ impl Access {
         ensures most { result ≤ 32 }
         ensures answered { HasAnswered now result self.old self.new }
     {
-        let full = self.batch.most as u32;
+        let full = self.batch.most() as u32;
         let first = self.take_at_server(now);
         if first != full {
             return first;
