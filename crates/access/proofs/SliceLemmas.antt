@@ -12,7 +12,7 @@ use Rattle.access.specs.Access.{AccessValue, HasCarried}
 use Rattle.access.specs.Pass.{EndsBy, IsAnswerTaken, IsEmptied, SocketsFrom}
 use Rattle.access.specs.Turn.{Both, CircuitSocket, InOrder, IsIdle, IsTaken, IsTried, RelaySocket, Tries}
 use Rattle.counts.specs.Tally.{CircuitFate}
-use Rattle.access.proofs.CarryLemmas.{carried_again, carried_then}
+use Rattle.access.proofs.CarryLemmas.{carried_again, carried_none, carried_then}
 
 -- ---- circuits that are passed over
 
@@ -42,7 +42,9 @@ carried_over topology proto from n old history added = record {
 -- those that are passed over, and then the socket of the next circuit
 pub carried_next : (topology : Topology) (proto : Proto) (from n k : ℕ) (a b c : AccessValue) → HasCarried (SocketsFrom topology proto from n) 0 a b → HasCarried (CircuitSocket topology (from + n) proto) k b c
     → HasCarried (SocketsFrom topology proto from (n + 1)) k a c
-carried_next topology proto from n k a b c first second = carried_again (λ i. CircuitSocket topology (from + i) proto) n 0 k a b c first second
+carried_next topology proto from n k a b c first second =
+    let same : 0 + k ≡ k = omega arith in
+    subst (λ j. HasCarried (SocketsFrom topology proto from (n + 1)) j a c) same (carried_again (λ i. CircuitSocket topology (from + i) proto) n 0 k a b c first second)
 
 -- ---- some circuits, and those after them
 
@@ -50,12 +52,15 @@ module _ (Try : ℕ → Tries) (a n : ℕ) where
   in_order_then : (m : ℕ) (first second : List Entry) (done more : List CircuitFate) → InOrder (λ i. Try (a + i)) n first done → InOrder (λ i. Try (a + n + i)) m second more
       → InOrder (λ i. Try (a + i)) (m + n) (first ++ second) (done ++ more)
   in_order_then zero first second done more these those =
-      subst (λ e. InOrder (λ i. Try (a + i)) n (first ++ e) (done ++ more)) (sym those.0)
-      (subst (λ o. InOrder (λ i. Try (a + i)) n (first ++ []) (done ++ o)) (sym those.1)
-      (subst (λ e. InOrder (λ i. Try (a + i)) n e (done ++ [])) (sym (append-nil first)) (subst (λ o. InOrder (λ i. Try (a + i)) n first o) (sym (append-nil done)) these)))
+      let none : n ≡ 0 + n = omega arith in
+      subst (λ e. InOrder (λ i. Try (a + i)) (0 + n) (first ++ e) (done ++ more)) (sym those.0)
+      (subst (λ o. InOrder (λ i. Try (a + i)) (0 + n) (first ++ []) (done ++ o)) (sym those.1)
+      (subst (λ e. InOrder (λ i. Try (a + i)) (0 + n) e (done ++ [])) (sym (append-nil first))
+      (subst (λ o. InOrder (λ i. Try (a + i)) (0 + n) first o) (sym (append-nil done)) (subst (λ k. InOrder (λ i. Try (a + i)) k first done) none these))))
   in_order_then (suc m) first second done more these both =
       let at : a + n + m ≡ a + (m + n) = omega arith in
-      record {
+      let one_more : suc (m + n) ≡ suc m + n = omega arith in
+      let all : InOrder (λ i. Try (a + i)) (suc (m + n)) (first ++ second) (done ++ more) = record {
         before = first ++ both.before;
         after = both.after;
         done = done ++ both.done;
@@ -64,7 +69,8 @@ module _ (Try : ℕ → Tries) (a n : ℕ) where
         other = subst (λ i. Try i both.after both.more) at both.other;
         entries_are = ap (λ e. first ++ e) both.entries_are ∙ sym (append_assoc first both.before both.after);
         outcomes_are = ap (λ o. done ++ o) both.outcomes_are ∙ sym (append_assoc done both.done both.more);
-      }
+      } in
+      subst (λ k. InOrder (λ i. Try (a + i)) k (first ++ second) (done ++ more)) one_more all
 
 pub carried_more : (topology : Topology) (proto : Proto) (from n m j k : ℕ) (a b c : AccessValue) → HasCarried (SocketsFrom topology proto from n) j a b → HasCarried (SocketsFrom topology proto (from + n) m) k b c
     → HasCarried (SocketsFrom topology proto from (m + n)) (j + k) a c
@@ -115,3 +121,9 @@ module _ (topology : Topology) (port r : ℕ) where
     by false left =
         ended taken a c (omega (arith, less))
         (carried_then (InOrder (λ i. IsAnswerTaken topology port r) taken) (EndsBy (role.Relay r) (taken == 32)) taken 0 a b c these (subst (λ full. HasCarried (EndsBy (role.Relay r) full) 0 b c) (sym left) last))
+
+  pub emptied_full : (taken : ℕ) (a b : AccessValue) → taken ≡ 32 → HasCarried (InOrder (λ i. IsAnswerTaken topology port r) taken) taken a b → HasCarried (IsEmptied topology port r) 32 a b
+  emptied_full taken a b all these =
+      let least : 32 ≤ 32 = omega arith in
+      let full = subst (λ k. HasCarried (InOrder (λ i. IsAnswerTaken topology port r) k) k a b) all these in
+      ended 32 a b least (carried_then (InOrder (λ i. IsAnswerTaken topology port r) 32) (EndsBy (role.Relay r) true) 32 0 a b b full (carried_none b (EndsBy (role.Relay r) true) (refl, refl)))
