@@ -394,6 +394,7 @@ impl Access {
     /// Takes a frame from each of the circuits' sockets to its relay.
     fn take_from_circuits(&mut self) -> u32
         ensures most { result ≤ 2 * length self.old.topology.circuits }
+        ensures few { result ≤ 2048 }
         ensures carried { HasCarried (CircuitsSockets self.old.topology) result self.old self.new }
     {
         self.waiter.poll();
