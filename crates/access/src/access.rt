@@ -334,6 +334,8 @@ impl Access {
         self.server.tick(now);
         self.history.tick(now);
         self.turns.tick();
+        // for the contract: the limit that its type keeps
+        let _received = self.tally.all.received;
         frames + datagrams + answers
     }
 
