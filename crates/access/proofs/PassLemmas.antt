@@ -168,3 +168,50 @@ passed_once n before now count old middle inside new history were same read pass
     let more : suc n ≡ n + 1 = omega arith in
     let once : HasMadePasses (suc n) now old new = (before, middle, were, record { read = record middle { history = history }; count = count; reads = reads; rest = refl; pass = passed; few = few }) in
     subst (λ k. HasMadePasses k now old new) more once
+
+-- ---- slice by slice
+
+-- so many slices so far, each of which took at most 304 datagrams and came to the last circuit or 16 further
+pub record HasSlicesSoFar (now : ℕ) (proto : Proto) (next count : ℕ) (old new : AccessValue) : Type 0 where
+  pub slices : ℕ
+  pub are : AreSlices now proto slices next count old new
+  pub most : count ≤ 304 * slices
+  pub far : (next ≡ length old.topology.circuits) ⊎ (16 * slices ≤ next)
+  pub near : 16 * slices ≤ next + 15
+
+pub none_so_far : (now : ℕ) (proto : Proto) (a b : AccessValue) → b ≡ a → HasSlicesSoFar now proto 0 0 a b
+none_so_far now proto a b same = record { slices = 0; are = (refl, refl, same); most = omega arith; far = inr (omega arith); near = omega arith }
+
+pub one_so_far : (now : ℕ) (proto : Proto) (from circuits next before more : ℕ) (a b c : AccessValue) → (so_far : HasSlicesSoFar now proto from before a b) → from < length a.topology.circuits → next ≡ from + circuits
+    → IsSlice now proto from circuits more b c → more ≤ 304 → (next ≡ length a.topology.circuits) ⊎ (from + 16 ≤ next) → from < next → HasSlicesSoFar now proto next (before + more) a c
+one_so_far now proto from circuits next before more a b c so_far within at slice most far ahead =
+    let n = so_far.slices in
+    let bound = so_far.most in
+    let all : before + more ≤ 304 * (n + 1) = omega (arith, bound, most) in
+    record {
+      slices = n + 1;
+      are = subst (λ to. AreSlices now proto (n + 1) to (before + more) a c) (sym at) (slices_more now proto n from before a b c circuits more so_far.are slice);
+      most = all;
+      far = further so_far.far far;
+      near = nearer so_far.far far;
+    } where
+      full : (from ≡ length a.topology.circuits) ⊎ (16 * so_far.slices ≤ from) → 16 * so_far.slices ≤ from
+      full (inl end) = absurd (omega (arith, within, end))
+      full (inr some) = some
+
+      further : (from ≡ length a.topology.circuits) ⊎ (16 * so_far.slices ≤ from) → (next ≡ length a.topology.circuits) ⊎ (from + 16 ≤ next) → (next ≡ length a.topology.circuits) ⊎ (16 * (so_far.slices + 1) ≤ next)
+      further was (inl end) = inl end
+      further was (inr more_than) = let before_it = full was in inr (omega (arith, before_it, more_than))
+
+      nearer : (from ≡ length a.topology.circuits) ⊎ (16 * so_far.slices ≤ from) → (next ≡ length a.topology.circuits) ⊎ (from + 16 ≤ next) → 16 * (so_far.slices + 1) ≤ next + 15
+      nearer was (inl end) = let before_it = full was in omega (arith, before_it, ahead)
+      nearer was (inr more_than) = let before_it = full was in omega (arith, before_it, more_than)
+
+pub all_so_far : (now : ℕ) (proto : Proto) (next count : ℕ) (a b : AccessValue) → HasSlicesSoFar now proto next count a b → next ≡ length a.topology.circuits → HasTakenAll now proto count a b
+all_so_far now proto next count a b so_far end = record { slices = so_far.slices; taken = subst (λ to. AreSlices now proto so_far.slices to count a b) end so_far.are }
+
+pub most_so_far : (now : ℕ) (proto : Proto) (next count : ℕ) (a b : AccessValue) → HasSlicesSoFar now proto next count a b → next ≡ length a.topology.circuits → count ≤ 19 * (length a.topology.circuits + 15)
+most_so_far now proto next count a b so_far end =
+    let most = so_far.most in
+    let near = so_far.near in
+    omega (arith, most, near, end)

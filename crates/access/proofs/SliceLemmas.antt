@@ -1,6 +1,5 @@
 -- Sockets that are tried in slices, and relays until none waits.
 use Rattle.std.proofs.Common.{inl, inr, ◌≡◌, ◌∙◌, ◌+◌, ◌<◌, ◌≤◌, ◌==◌, ℕ, zero, suc, Bool, true, false, refl, sym, ap, subst, List, [], ◌∷◌, ◌++◌, length, arith, append_assoc, append-nil}
-use Rattle.std.specs.Prelude.{◌⊎◌}
 use Rattle.std.proofs.lemmas.Bool.{eqb-true}
 use Rattle.types.specs.declared.addr.Source.{Source}
 use Rattle.types.specs.declared.dest.Proto.{Proto}
@@ -10,7 +9,7 @@ use Rattle.udp.specs.declared.history.Role.{Role}
 use Rattle.udp.specs.declared.history.Role.TheVariants as role
 use Rattle.access.specs.Access.{AccessValue, HasCarried}
 use Rattle.access.specs.Pass.{EndsBy, IsAnswerTaken, IsEmptied, SocketsFrom}
-use Rattle.access.specs.Turn.{Both, CircuitSocket, InOrder, IsIdle, IsTaken, IsTried, RelaySocket, Tries}
+use Rattle.access.specs.Turn.{Both, CircuitSocket, InOrder, IsIdle, IsTaken, IsTried, Tries}
 use Rattle.counts.specs.Tally.{CircuitFate}
 use Rattle.access.proofs.CarryLemmas.{carried_again, carried_none, carried_then}
 

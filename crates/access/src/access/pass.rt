@@ -153,6 +153,8 @@ impl Access {
         self.server.tick(now);
         self.history.tick(now);
         self.turns.tick();
+        // for the contract: the limit that its type keeps
+        let _received = self.tally.all.received;
         count4 + count6
     }
 

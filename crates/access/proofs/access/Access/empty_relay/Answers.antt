@@ -1,4 +1,4 @@
-use Rattle.std.proofs.Common.{◌≡◌, ◌≢◌, ◌∙◌, subst, arith, rules}
+use Rattle.std.proofs.Common.{◌≡◌, ◌∙◌, subst, arith, rules}
 use Rattle.config.specs.Topology.{Topology}
 use Rattle.relay.specs.Relays.{relayed_down_in}
 use Rattle.udp.specs.declared.history.Role.TheVariants as role
