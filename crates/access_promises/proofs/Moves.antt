@@ -158,7 +158,7 @@ pub moves_through : (now count : ℕ) (Down : Topology → ℕ → Tries) (old r
     → Moves now old relayed → Moves now relayed served → HasCarried (Down old.topology old.port) count served new → Moves now old new
 moves_through now count Down old relayed served new gives up serve down sound known =
     let before = moves_then now old relayed served up serve sound known in
-    moves_then now old served new (λ _ _. before)
+    moves_then now old served new (λ s k. before)
     (moves_down now count (Down old.topology old.port) served new (subst (λ p. Gives (Down old.topology old.port) (AreAnswers served.topology p)) (sym before.port_is)
     (subst (λ top. Gives (Down old.topology old.port) (AreAnswers top old.port)) (sym before.same) (gives old.topology old.port))) down)
     sound known

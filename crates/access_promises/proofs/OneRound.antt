@@ -1,5 +1,5 @@
 -- One round, a turn or a pass: its moves, and then all clocks are moved.
-use Rattle.std.proofs.Common.{inl, inr, ◌≡◌, ◌∙◌, ℕ, zero, suc, ◌==◌, Bool, true, false, List, [], refl, sym, ap, subst}
+use Rattle.std.proofs.Common.{inl, inr, ◌≡◌, ◌∙◌, ℕ, zero, suc, ◌==◌, Bool, true, false, length, sym, ap, subst}
 use Rattle.std.specs.Prelude.{Option}
 use Rattle.types.specs.declared.dest.Proto.{Proto}
 use Rattle.types.specs.declared.dest.Proto.TheVariants.{V4, V6}

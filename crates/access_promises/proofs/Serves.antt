@@ -71,7 +71,7 @@ pub own_then : (topology : Topology) (c : ℕ) (part : CircuitPart) (ss ts : Lis
 own_then topology c part ss ts xs ys old middle new before one two =
     record { after = two.after; alone = alone_more topology c part ss ts xs ys before one.after two.after one.alone two.alone; at = two.at }
 
-pub serves_then : (Are : List Entry → Type 0) → AddsUp Are → (topology : Topology) (ds es : List DeliveryValue) (s t u : Serving) → Serves Are topology ds s t → Serves Are topology es t u → Serves Are topology (ds ++ es) s u
+unfoldable pub serves_then : (Are : List Entry → Type 0) → AddsUp Are → (topology : Topology) (ds es : List DeliveryValue) (s t u : Serving) → Serves Are topology ds s t → Serves Are topology es t u → Serves Are topology (ds ++ es) s u
 serves_then Are adds topology ds es s t u one two = record {
   its = two.its;
   entries = one.entries ++ two.entries;
