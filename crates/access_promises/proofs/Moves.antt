@@ -1,7 +1,6 @@
 -- What a round is made of: frames are carried up, datagrams are served, and answers are carried down, any number of times.
 use Rattle.std.proofs.Common.{◌≡◌, ◌∙◌, ℕ, ◌==◌, false, List, [], ◌++◌, refl, sym, ap, ap₂, subst, append_assoc, append-nil}
 use Rattle.std.specs.Prelude.{slice_get}
-use Rattle.std.specs.List.{filter_map}
 use Rattle.std.proofs.lemmas.List.Elements.{filter_map-append}
 use Rattle.std.proofs.lemmas.List.Sorted.{IsPermutation-refl}
 use Rattle.types.specs.Delivery.{DeliveryValue}

@@ -4,9 +4,9 @@ use Rattle.std.specs.Prelude.{Option}
 use Rattle.types.specs.declared.dest.Proto.{Proto}
 use Rattle.types.specs.declared.dest.Proto.TheVariants.{V4, V6}
 use Rattle.udp.specs.History.{Read, with_entry}
-use Rattle.access.specs.Access.{AccessValue, HasTurned, HasTurnedOnce}
+use Rattle.access.specs.Access.{AccessValue, HasTurned}
 use Rattle.access.specs.Moments.{HasRead}
-use Rattle.access.specs.Pass.{AreSlices, HasAnswered, HasPassed, HasPassedOnce, HasTicked, IsSlice, RelaysEmptied, SecondBatch, SocketsFrom}
+use Rattle.access.specs.Pass.{AreSlices, HasAnswered, HasPassed, HasTicked, IsSlice, RelaysEmptied, SecondBatch, SocketsFrom}
 use Rattle.access.specs.Turn.{CircuitsSockets, RelaysSockets}
 use Rattle.access_promises.specs.Turns.{IsRound}
 use Rattle.access_promises.proofs.DownLemmas.{slice_down, turn_down}
