@@ -14,14 +14,14 @@ TURNS, PAUSE = 5000, 50
 class WatchedServer(Server):
     """A run under the watcher of its calls, `watch`, that serves until its counts are wanted; a service has none at its end."""
 
-    def __init__(self, program, config, leases, *words, names=OUTGOING, fails=None, service=False, **how):
+    def __init__(self, program, config, leases, *words, names=OUTGOING, fails=None, **how):
         """Watches the calls of these names; `fails` says which of them fails, as `Watch.fail` does."""
-        self.is_service = service
+        self.is_service = "--service" in words
         self.watch = Watch((*names, "look"))
         if fails:
             self.watch.fail(*fails)
-        pause = () if service else ("--pause", str(PAUSE))
-        super().__init__(program, config, leases, *pause, *words, service=service, turns=TURNS, start=self.watch.start, **how)
+        pause = () if self.is_service else ("--pause", str(PAUSE))
+        super().__init__(program, config, leases, *pause, *words, turns=TURNS, start=self.watch.start, **how)
 
     def settle(self):
         """Waits until whatever was sent has been taken and answered."""
