@@ -6,13 +6,11 @@ import tomllib
 
 from operator_script import Refused
 
-# how many circuits an `accessd` serves, how many ports a circuit has, how many parts `split` makes at most, and the first port of the
-# first circuit
-MOST = 16
+# how many ports a circuit has; the first port of the first circuit, which `accessd` takes within these limits; and the last port that
+# there is
 PORTS = 4
-PARTS = 64
 FIRST_PORT = 20000
-LEAST_PORT, MOST_PORT = 1024, 65472
+LEAST_PORT, MOST_PORT, LAST_PORT = 1024, 65472, 65535
 LOOPBACK = "127.0.0.1"
 # what the programs read; other keys are left out
 KEYS = {
@@ -144,8 +142,9 @@ def pool_faults(circuit):
 def port_faults(config, port):
     """Where server or relays receive on ports that circuits have, which are of 127.0.0.1."""
     circuits = config["circuit"]
-    if not LEAST_PORT <= port <= MOST_PORT:
-        yield f"the first port of the first circuit has to be {LEAST_PORT} to {MOST_PORT}, not {port}"
+    most = min(MOST_PORT, LAST_PORT + 1 - PORTS * len(circuits))
+    if not LEAST_PORT <= port <= most:
+        yield f"the first port of the first circuit has to be {LEAST_PORT} to {most}, not {port}: each circuit has {PORTS}"
         return
     for what, source in sources(config):
         address, _, at = source.rpartition(":")
@@ -156,13 +155,9 @@ def port_faults(config, port):
 
 
 def faults(config, port):
-    """Why a configuration that `accesslab` accepts can't be served by one `accessd`, a line for each."""
-    circuits = config["circuit"]
-    if len(circuits) > MOST:
-        yield f"{len(circuits)} circuits: more than {MOST} circuits; scripts/operate/split makes parts of it"
-        return
+    """Why a configuration that `accesslab` accepts can't be served by `accessd`, a line for each."""
     yield from source_faults(config)
-    for circuit in circuits:
+    for circuit in config["circuit"]:
         yield from pool_faults(circuit)
     yield from port_faults(config, port)
 

@@ -29,7 +29,7 @@ HEAD_OF_UNITS = {
     "accessd@.service": """\
 # `accessd` for one of several configurations, under systemd: `accessd@main` serves /etc/higvaszte/main.toml, with its leases in
 # /var/lib/higvaszte/main/leases, which `higvaszte new` makes (man higvaszte-operating, Install). /etc/higvaszte/main.env, where it
-# is there, may say `PORT=..`, the first port of the first circuit, as `higvaszte split` writes it; else that is 20000.
+# is there, may say `PORT=..`, the first port of the first circuit; else that is 20000.
 """,
     "accessd-bridge@.service": """\
 # `higvaszte bridge` for one circuit, by its id, under systemd: `accessd-bridge@a` carries frames between circuit a's ports and an

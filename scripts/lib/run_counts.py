@@ -11,38 +11,42 @@ CLOSED = re.compile(r"(\S+) closed: a save of its leases failed; .*")
 
 
 class Counts:
-    """Of each run the last report, summed. What stands before the first run's beginning is of a run that is not whole in the
-    log, and left out: a log that is cut at its start gives counts that are too small, and never ones that stand twice."""
+    """Of each run the last report, summed. A run that began before the log counts from its first report there: so a log that is cut at
+    its start gives counts that are too small, and never ones that stand twice."""
 
     def __init__(self):
         self.runs = 0
-        self.steps = collections.Counter({step: 0 for step in STEPS})
-        self.dropped = collections.Counter()
-        # of the run that the lines are of; and the circuits that a failed save closed in it
-        self.last_steps, self.last_dropped = {}, {}
+        self.found = collections.Counter()
+        # of the run that the lines are of, the report from which on it counts, and the last one
+        self.first = self.last = None
+        # the circuits that a failed save closed in it
         self.closed = set()
 
     def line(self, text):
-        closed = CLOSED.fullmatch(text)
-        if closed:
+        if closed := CLOSED.fullmatch(text):
             self.closed.add(closed[1])
-            return
-        if text.startswith(BEGINNING):
+        elif text.startswith(BEGINNING):
             self.end_run()
-            self.closed.clear()
             self.runs += 1
-            return
-        totals = TOTALS.fullmatch(text)
-        dropped = DROPPED.fullmatch(text)
-        if totals and self.runs:
-            self.last_steps, self.last_dropped = {step: int(count) for step, count in totals.groupdict().items()}, {}
-        elif dropped and self.runs:
-            self.last_dropped[dropped[2], dropped[3]] = int(dropped[1])
+            self.first, self.last = collections.Counter(), collections.Counter()
+            self.closed.clear()
+        elif totals := TOTALS.fullmatch(text):
+            if self.first is None:
+                self.first = self.last
+            self.last = collections.Counter({step: int(count) for step, count in totals.groupdict().items()})
+        elif (dropped := DROPPED.fullmatch(text)) and self.last is not None:
+            self.last[dropped[2], dropped[3]] = int(dropped[1])
 
     def end_run(self):
-        self.steps.update(self.last_steps)
-        self.dropped.update(self.last_dropped)
-        self.last_steps, self.last_dropped = {}, {}
+        if self.first is not None:
+            self.found += self.last - self.first
+
+    def steps(self):
+        return {step: self.found[step] for step in STEPS}
+
+    def dropped(self):
+        """By their reasons, each a number and words."""
+        return {reason: count for reason, count in self.found.items() if reason not in STEPS}
 
 
 def counts_in(lines):

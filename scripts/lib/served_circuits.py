@@ -10,8 +10,6 @@ import tomllib
 from operator_script import Refused, cause, say
 
 BUILT = pathlib.Path(__file__).resolve().parent / "built"
-# of a circuit, and circuits of an `accessd`
-PORTS, MOST_SERVED = 4, 16
 # the status of `leases` where a circuit is closed, and every other one is listed
 CLOSED = 3
 

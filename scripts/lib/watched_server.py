@@ -12,14 +12,16 @@ TURNS, PAUSE = 5000, 50
 
 
 class WatchedServer(Server):
-    """A run under the watcher of its calls, `watch`, that serves until its counts are wanted."""
+    """A run under the watcher of its calls, `watch`, that serves until its counts are wanted; a service has none at its end."""
 
     def __init__(self, program, config, leases, *words, names=OUTGOING, fails=None, **how):
         """Watches the calls of these names; `fails` says which of them fails, as `Watch.fail` does."""
+        self.is_service = "--service" in words
         self.watch = Watch((*names, "look"))
         if fails:
             self.watch.fail(*fails)
-        super().__init__(program, config, leases, "--pause", str(PAUSE), *words, turns=TURNS, start=self.watch.start, **how)
+        pause = () if self.is_service else ("--pause", str(PAUSE))
+        super().__init__(program, config, leases, *pause, *words, turns=TURNS, start=self.watch.start, **how)
 
     def settle(self):
         """Waits until whatever was sent has been taken and answered."""
@@ -48,7 +50,11 @@ class WatchedServer(Server):
             self.process.send_signal(signal.SIGCONT)
 
     def report(self):
-        """Lets it take whatever was sent and make its last turns, and returns what it reports at its end."""
+        """Lets it take whatever was sent and make its last turns, and returns what it reports at its end. A service is killed, and this
+        is what it has said meanwhile."""
         self.settle()
-        self.watch.hurry()
+        if self.is_service:
+            self.process.kill()
+        else:
+            self.watch.hurry()
         return super().report()
