@@ -148,9 +148,11 @@ class Server:
 
     def __init__(self, program, config, leases, *words, turns=None, start=subprocess.Popen, **how):
         """Started by `start`, with these words more. Where no turns are given it serves until it is killed: without a pause the most
-        turns that there are would be over in less than a second in which nobody sends. With a pause they are a time."""
+        turns that there are would be over in less than a second in which nobody sends. With a pause they are a time. With
+        `--service` it makes none."""
         pause = () if turns or "--pause" in words else ("--pause", "1")
-        command = [program, config, "--disk", leases, "--turns", str(turns or 1_000_000), *pause, *words]
+        made = () if "--service" in words else ("--turns", str(turns or 1_000_000), *pause)
+        command = [program, config, "--disk", leases, *made, *words]
         self.process = start(command, stderr=subprocess.PIPE, text=True, **how)
         self.first_line = self.process.stderr.readline().rstrip("\n")
 
@@ -158,6 +160,12 @@ class Server:
         """Ends it at once, as a crash would."""
         self.process.kill()
         self.process.communicate()
+
+    def stop(self):
+        """Ends it as a service manager does, and returns its status, negative for the signal."""
+        self.process.terminate()
+        self.process.communicate()
+        return self.process.returncode
 
     def report(self):
         """Waits for its end, and returns what it reports then."""
