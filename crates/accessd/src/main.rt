@@ -42,9 +42,9 @@ const OTHER_FILES: usize = 16;
 /// How the words say that relay and server serve.
 fn options_of(values: &AccessWords<'_>) -> ServeOptions
     ensures { result ≡ record {
-        port = values.now.port;
-        batch = batch_of values.now.serving;
-        most_circuits = most_of values.now.serving;
+      port = values.now.port;
+      batch = batch_of values.now.serving;
+      most_circuits = most_of values.now.serving;
     } }
 {
     ServeOptions {
@@ -159,7 +159,8 @@ fn bind_cause(rt: &HostRuntime, at: Source) -> Option<&'static str> {
 
 /// How many sockets there are: two of each circuit, two of the server and one of each relay.
 fn socket_count(config: &Config) -> usize
-    ensures { result ≡ 2 * length config.now.circuits + 2 + length config.now.relays }
+    ensures count { result ≡ 2 * length config.now.circuits + 2 + length config.now.relays }
+    ensures most { result ≤ 2058 }
 {
     2 * config.circuit_count() + 2 + config.relay_count()
 }
@@ -205,10 +206,12 @@ fn refuse(rt: &HostRuntime, config: &Config, values: &AccessWords<'_>, fault: Ac
             REFUSED
         }
         AccessFault::Ports => {
-            let ports = 4 * config.circuit_count();
-            let (last, most) = (usize::from(values.port) + ports - 1, 65536 - ports);
+            let count = config.circuit_count();
+            let (last, most) = (usize::from(values.port) + 4 * count - 1, 65536 - 4 * count);
             let _ = eprintln!(rt; "ports");
-            let _ = eprintln!(rt; "{last}: {fault}; --port may be at most {most}");
+            let _ = eprintln!(rt;
+                "{count} circuits: {fault}, {last}; --port may be at most {most}"
+            );
             REFUSED
         }
     }

@@ -61,9 +61,14 @@ impl WordsFault {
             WordsFault::Beside(argument) => argument.term(),
         };
         let shown = eprintln!(rt;
-            "error: the argument '{argument}' cannot be used with '--service'\n\nUsage: {USAGE}\n\nFor more information, try '--help'."
+            "error: the argument '{argument}' cannot be used with '--service'"
         );
-        if shown.is_err() { FAILED } else { REFUSED }
+        let helped = eprint!(rt; "\nUsage: {USAGE}\n\nFor more information, try '--help'.\n");
+        if shown.is_err() || helped.is_err() {
+            FAILED
+        } else {
+            REFUSED
+        }
     }
 }
 
