@@ -3,9 +3,11 @@ pub mod AnswerLemmas
 pub mod CarryLemmas
 pub mod ClockLemmas
 pub mod FaultLemmas
+pub mod PassLemmas
 pub mod PollingLemmas
 pub mod ReplyLemmas
 pub mod ServedLemmas
+pub mod SliceLemmas
 pub mod TopologyLemmas
 pub mod TurnLemmas
 pub mod UpLemmas

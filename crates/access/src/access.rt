@@ -16,6 +16,8 @@ ghost use Rattle.dispatch.specs.Regions.{HasRegions};
 ghost use Rattle.dispatch.specs.ServerValue.{books_in};
 ghost use Rattle.config.specs.Topology.{topology_of};
 
+mod pass;
+
 use crate::batch::Batch;
 use crate::clock::moment;
 use crate::options::ServeOptions;

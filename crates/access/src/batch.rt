@@ -47,6 +47,13 @@ impl Batch {
         }
     }
 
+    /// How many datagrams are taken at most.
+    pub(crate) fn most(&self) -> usize
+        ensures { result ≡ self.now.most }
+    {
+        self.most
+    }
+
     /// How many datagrams were taken.
     pub(crate) fn len(&self) -> usize
         ensures { result ≡ length self.now.taken }
