@@ -47,8 +47,9 @@ def program_parts(text, called):
     """What a program prints for --help, as parts of a page: what it does, how it is called, and lists."""
     about, _, rest = text.partition("\n\nUsage: ")
     usage, *lists = rest.split("\n\n")
-    name, _, words = usage.strip().partition(" ")
-    parts = [heading("Synopsis"), ("fenced", ("sh", [f"{called} {words}"])),
+    ways = [way.strip().partition(" ") for way in usage.splitlines()]
+    name = ways[0][0]
+    parts = [heading("Synopsis"), ("fenced", ("sh", [f"{called} {words}" for _, _, words in ways])),
              heading("Description"), ("paragraph", about.strip() + ".")]
     for one in lists:
         title, _, lines = one.strip("\n").partition(":\n")

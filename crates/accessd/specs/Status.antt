@@ -19,7 +19,7 @@ device_status device.File = 5
 device_status device.Memory = 4
 device_status device.Format = 4
 
--- 0 after all turns, 2 where words or configuration are refused, 4 where the opening is, 5 for a file or
+-- 0 after all turns or passes, 2 where words or configuration are refused, 4 where the opening is, 5 for a file or
 -- socket, 6 where help can't be written
 abbrev pub IsExitStatus : ℕ → Type 0
 IsExitStatus status = (status ≡ 0) ⊎ (status ≡ 2) ⊎ (status ≡ 4) ⊎ (status ≡ 5) ⊎ (status ≡ 6)

@@ -3,19 +3,24 @@
 
 ghost use Rattle.std.specs.Prelude.{◌≡◌, ◌≤◌, ◌⊎◌, ◌+◌, ◌*◌, true, false, length, IfErr, IfOk};
 ghost use Rattle.lease_disk.specs.FileDisk.{uncalled};
+ghost use Rattle.accessd.specs.Serving.{batch_of, most_of};
 ghost use Rattle.accessd.specs.Status.{IsExitStatus, status_of, device_status};
 
+mod addresses;
+mod open_files;
 mod report_lines;
 mod reporter;
+mod serving;
 mod text;
 mod words;
 
+use crate::addresses::{clients_address, report_addresses};
+use crate::open_files::too_many_files;
 use crate::reporter::Reporter;
+use crate::serving::Serving;
 use crate::text::{circuit_at, id_of, text_of};
 use crate::words::AccessWords;
-use access::{
-    Access, AccessFault, DeviceFault, History, ServeOptions, device_of, try_sockets, warn,
-};
+use access::{Access, AccessFault, DeviceFault, History, ServeOptions, device_of, try_sockets};
 use command_line::{
     REFUSED, StandardStreams, UNOPENED, UNREADABLE, complain, complain_of, given_words,
     read_configuration, socket_cause, writing_cause,
@@ -29,19 +34,23 @@ use std::net::{IpAddr, Ipv4Addr, SocketAddr, UdpSocket};
 use std::os::unix::fs::MetadataExt;
 use std::process::ExitCode;
 use std::rt::Clock;
-use types::{Addr4, Circuit, RelayNo, Source};
+use types::{Addr4, Circuit, Source};
 
-/// The most circuits that are served.
-const MAX_CIRCUITS: u16 = 16;
+/// How many descriptors are open at most beside the sockets.
+const OTHER_FILES: usize = 16;
 
 /// How the words say that relay and server serve.
 fn options_of(values: &AccessWords<'_>) -> ServeOptions
-    ensures { result ≡ record { port = values.now.port; batch = values.now.batch; most_circuits = 16 } }
+    ensures { result ≡ record {
+      port = values.now.port;
+      batch = batch_of values.now.serving;
+      most_circuits = most_of values.now.serving;
+    } }
 {
     ServeOptions {
         port: values.port,
-        batch: values.batch,
-        most_circuits: MAX_CIRCUITS,
+        batch: values.serving.batch(),
+        most_circuits: values.serving.most_circuits(),
     }
 }
 
@@ -123,18 +132,13 @@ fn may_format(rt: &HostRuntime, config: &Config, values: &AccessWords<'_>) -> Re
 
 /// The device in the file with the leases, formatted where that is asked for.
 fn device(rt: &HostRuntime, config: &Config, values: &AccessWords<'_>) -> Result<FileDisk, u8>
-    ensures formats { values.now.format ≡ true → length config.now.circuits ≤ 16
+    ensures formats { values.now.format ≡ true → length config.now.circuits ≤ most_of values.now.serving
         → IfOk result (λ disk. disk.writes ≡ 4 * length config.now.circuits) }
     ensures opens { values.now.format ≡ false → IfOk result (λ disk. disk ≡ uncalled disk.length) }
     ensures status { IfErr result (λ status. (status ≡ 4) ⊎ (status ≡ 5)) }
 {
-    match device_of(
-        rt,
-        values.disk,
-        values.format,
-        config,
-        usize::from(MAX_CIRCUITS),
-    ) {
+    let most = usize::from(values.serving.most_circuits());
+    match device_of(rt, values.disk, values.format, config, most) {
         Ok(disk) => Ok(disk),
         Err(fault) => {
             report_device(rt, values.disk, fault, values.format);
@@ -153,6 +157,33 @@ fn bind_cause(rt: &HostRuntime, at: Source) -> Option<&'static str> {
     }
 }
 
+/// How many sockets there are: two of each circuit, two of the server and one of each relay.
+fn socket_count(config: &Config) -> usize
+    ensures count { result ≡ 2 * length config.now.circuits + 2 + length config.now.relays }
+    ensures most { result ≤ 2058 }
+{
+    2 * config.circuit_count() + 2 + config.relay_count()
+}
+
+/// Reports that no socket is bound to an address, with the system's cause if it says that once more, and returns the status.
+fn refuse_socket(rt: &HostRuntime, config: &Config, at: Source, fault: AccessFault) -> u8
+    ensures { result ≡ 5 }
+{
+    let (Addr4([a, b, c, d]), port) = (at.addr, at.port);
+    let cause = bind_cause(rt, at);
+    let sockets = socket_count(config);
+    let _ = eprint!(rt; "{a}.{b}.{c}.{d}:");
+    // the file with the leases and what the sockets are watched by are open then too
+    if cause.is_some() || !too_many_files(rt, sockets + 2) {
+        return complain_of(rt, port, fault, cause);
+    }
+    let needed = sockets + OTHER_FILES;
+    let _ = eprintln!(rt;
+        "{port}: {fault}: too many files are open; set ulimit -n, or LimitNOFILE= of its unit, to {needed} or more"
+    );
+    UNREADABLE
+}
+
 /// Reports why relay and server were not opened, and returns the status.
 fn refuse(rt: &HostRuntime, config: &Config, values: &AccessWords<'_>, fault: AccessFault) -> u8
     ensures { result ≡ status_of fault }
@@ -167,47 +198,45 @@ fn refuse(rt: &HostRuntime, config: &Config, values: &AccessWords<'_>, fault: Ac
             );
             UNOPENED
         }
-        AccessFault::Socket(at) => {
-            let (Addr4([a, b, c, d]), port) = (at.addr, at.port);
-            let _ = eprint!(rt; "{a}.{b}.{c}.{d}:");
-            complain_of(rt, port, fault, bind_cause(rt, at))
-        }
+        AccessFault::Socket(at) => refuse_socket(rt, config, at, fault),
         AccessFault::TooManyCircuits => {
-            let count = config.circuit_count();
+            let (count, most) = (config.circuit_count(), values.serving.most_circuits());
             let _ = eprintln!(rt; "circuits");
-            let _ = eprintln!(rt; "{count} circuits: more than {MAX_CIRCUITS} circuits");
+            let _ = eprintln!(rt; "{count} circuits: more than {most} circuits");
             REFUSED
         }
         AccessFault::Ports => {
-            let last = usize::from(values.port) + 4 * config.circuit_count() - 1;
+            let count = config.circuit_count();
+            let (last, most) = (usize::from(values.port) + 4 * count - 1, 65536 - 4 * count);
             let _ = eprintln!(rt; "ports");
-            let _ = eprintln!(rt; "{last}: {fault}");
+            let _ = eprintln!(rt;
+                "{count} circuits: {fault}, {last}; --port may be at most {most}"
+            );
             REFUSED
         }
     }
 }
 
-/// Reports what is wrong with an address, in a line of its own.
-fn report_address(rt: &HostRuntime, config: &Config, port: u16, at: Source)
-    requires ports { port + 4 * length config.now.circuits ≤ 65536 }
+/// Whether the service can have its ports: each circuit has four, and frames towards clients go to no address of the server or of
+/// a relay. An error is the status.
+fn may_serve(rt: &HostRuntime, config: &Config, values: &AccessWords<'_>) -> Result<(), u8>
+    ensures status { IfErr result (λ status. status ≡ 2) }
 {
-    if let Some(warning) = warn(at, port, config.circuit_count()) {
-        let Source { addr, port } = at;
-        let Addr4([a, b, c, d]) = addr;
-        let _ = eprintln!(rt; "{a}.{b}.{c}.{d}:{port}: {warning}");
+    if let Serving::Turns { .. } = values.serving {
+        return Ok(());
     }
-}
-
-/// Warns of each address of the server and the relays that a circuit's ports are at too.
-fn report_addresses(rt: &HostRuntime, config: &Config, port: u16)
-    requires ports { port + 4 * length config.now.circuits ≤ 65536 }
-{
-    report_address(rt, config, port, config.server().listen4);
-    report_address(rt, config, port, config.server().listen6);
-    for index in 0..config.relay_count() {
-        let source = config.relay(RelayNo::at(index)).source;
-        report_address(rt, config, port, source);
+    if usize::from(values.port) + 4 * config.circuit_count() > 65536 {
+        return Err(refuse(rt, config, values, AccessFault::Ports));
     }
+    let Some(at) = clients_address(config, values.port) else {
+        return Ok(());
+    };
+    let (Addr4([a, b, c, d]), port) = (at.addr, at.port);
+    let _ = eprintln!(rt; "ports");
+    let _ = eprintln!(rt;
+        "{a}.{b}.{c}.{d}:{port}: frames towards the clients of a circuit go there; choose another --port"
+    );
+    Err(REFUSED)
 }
 
 /// Reports each circuit whose region was moved, in a line of its own.
@@ -279,7 +308,7 @@ fn report_clocks(rt: &HostRuntime, access: &Access) {
     }
 }
 
-/// Reports what is served, takes the turns, and returns the status.
+/// Reports what is served, serves, and returns the status.
 fn serve(rt: &HostRuntime, config: &Config, values: &AccessWords<'_>, access: &mut Access) -> u8
     requires ports { values.now.port + 4 * length config.now.circuits ≤ 65536 }
     ensures { IsExitStatus result }
@@ -291,15 +320,18 @@ fn serve(rt: &HostRuntime, config: &Config, values: &AccessWords<'_>, access: &m
         return complain(rt, "open memory", UNOPENED);
     };
     report_start(rt, config, access, values);
-    access.serve(rt, values.turns, values.pause, &mut reporter);
+    match values.serving {
+        Serving::Turns { turns, pause, .. } => access.serve(rt, turns, pause, &mut reporter),
+        Serving::Service => access.serve_passes(rt, u64::MAX, &mut reporter),
+    }
     reporter.end(access);
     0
 }
 
 /// Opens relay and server over a device, and serves.
 fn run_over(rt: &HostRuntime, config: &Config, values: &AccessWords<'_>, disk: FileDisk) -> u8
-    requires some { 1 ≤ values.now.batch }
-    requires few { values.now.batch ≤ 16 }
+    requires some { 1 ≤ batch_of values.now.serving }
+    requires few { batch_of values.now.serving ≤ 16 }
     ensures { IsExitStatus result }
 {
     let mut opening = History::new();
@@ -317,10 +349,13 @@ fn run_over(rt: &HostRuntime, config: &Config, values: &AccessWords<'_>, disk: F
 
 /// Runs over a configuration, and returns the status.
 fn run_with(rt: &HostRuntime, config: &Config, values: &AccessWords<'_>) -> u8
-    requires some { 1 ≤ values.now.batch }
-    requires few { values.now.batch ≤ 16 }
+    requires some { 1 ≤ batch_of values.now.serving }
+    requires few { batch_of values.now.serving ≤ 16 }
     ensures { IsExitStatus result }
 {
+    if let Err(status) = may_serve(rt, config, values) {
+        return status;
+    }
     if values.format
         && let Err(status) = may_format(rt, config, values)
     {
@@ -334,8 +369,8 @@ fn run_with(rt: &HostRuntime, config: &Config, values: &AccessWords<'_>) -> u8
 
 /// Runs as the words say, and returns the status.
 fn run(rt: &HostRuntime, values: AccessWords<'_>) -> u8
-    requires some { 1 ≤ values.batch }
-    requires few { values.batch ≤ 16 }
+    requires some { 1 ≤ batch_of values.serving }
+    requires few { batch_of values.serving ≤ 16 }
     ensures { IsExitStatus result }
 {
     let config = match read_configuration(rt, values.config) {
@@ -358,7 +393,7 @@ fn status(rt: &HostRuntime) -> u8
     };
     match words::words(rt.alloc(), &given) {
         Ok(values) => run(rt, values),
-        Err(refusal) => refusal.show(rt),
+        Err(fault) => fault.show(rt),
     }
 }
 

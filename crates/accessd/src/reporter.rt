@@ -2,7 +2,7 @@
 use crate::report_lines::{write_changes, write_closed, write_full, write_report_of};
 use crate::text::circuit_at;
 use access::{Access, Watch};
-use reports::{Faults, Looks, Schedule, Seen};
+use reports::{Faults, Looks, Schedule, Scope, Seen};
 use std::alloc::AllocError;
 use types::{Discard, Moment, Slots};
 
@@ -103,7 +103,10 @@ impl<'a> Reporter<'a> {
 
     /// Looks at the circuits whose turn it is.
     fn look_at_all(&mut self, access: &Access, now: Moment) {
-        let scope = self.looks.look(now);
+        let scope = self.looks.look(now, access.counts().received);
+        if let Scope::Nothing = scope {
+            return;
+        }
         'circuits: for index in 0..access.server().circuit_count() {
             if scope.includes(self.has_traffic(access, index)) {
                 self.look(access, index, now);

@@ -26,12 +26,15 @@ impl Scope {
     }
 }
 
-/// When circuits are looked at: all in each new second, and in between those with traffic, where leases are listed.
+/// When circuits are looked at: all in each new second. In between, where leases are listed and datagrams were received since the
+/// last look, those with traffic.
 #[derive(Clone, Copy)]
 pub struct Looks {
     lists_leases: bool,
     /// The last second in which all circuits were looked at.
     second: u64,
+    /// How many datagrams had been received at the last look.
+    received: u64,
 }
 
 impl Looks {
@@ -41,6 +44,7 @@ impl Looks {
         Looks {
             lists_leases,
             second: 0,
+            received: 0,
         }
     }
 
@@ -51,16 +55,18 @@ impl Looks {
         self.lists_leases
     }
 
-    /// Which circuits are looked at at this moment.
-    pub fn look(&mut self, now: Moment) -> Scope
-        ensures scope { result ≡ scope_at self.old now }
-        ensures next { self.new ≡ record self.old { second = max self.old.second now } }
+    /// Which circuits are looked at at this moment, by when so many datagrams were received.
+    pub fn look(&mut self, now: Moment, received: u64) -> Scope
+        ensures scope { result ≡ scope_at self.old now received }
+        ensures next { self.new ≡ record self.old { second = max self.old.second now; received = received } }
     {
+        let has_traffic = self.received != received;
+        self.received = received;
         if now.seconds() > self.second {
             self.second = now.seconds();
             return Scope::All;
         }
-        if self.lists_leases {
+        if self.lists_leases && has_traffic {
             Scope::WithTraffic
         } else {
             Scope::Nothing

@@ -3,6 +3,8 @@ use Rattle.std.specs.Prelude.{Option, Some, None, ◌↔◌}
 use Rattle.clap.specs.Words.{found_of}
 use Rattle.clap.proofs.WalkLemmas.{first_value-rows}
 use Rattle.command_line.specs.CommandLine.{IsNumber}
+use Rattle.accessd.proofs.WordsLemmas.{same_given}
+use Rattle.accessd.specs.Serving.{HasServing}
 use Rattle.accessd.proofs.words.values.Goals as goal
 
 -- nothing is not something
@@ -17,21 +19,13 @@ pub returns-in_err-disk-clause-none : goal.returns-in_err-disk-clause-none
 returns-in_err-disk-clause-none c = λ _ values has.
     not_there _ values.disk.now (c.in_err-disk.ensures ∙ first_value-rows (found_of c.args.matches.now) (codes "disk")) has.disk_is
 
-pub returns-in_err-turns-clause-none : goal.returns-in_err-turns-clause-none
-returns-in_err-turns-clause-none c = λ _ values has.
-    c.in_err-turns.ensures.none refl values.turns (subst (λ t. IsNumber t 1 1000000 values.turns) (sym (first_value-rows (found_of c.args.matches.now) (codes "turns"))) has.turns_are)
+pub returns-in_err-serving-clause-none : goal.returns-in_err-serving-clause-none
+returns-in_err-serving-clause-none c = λ _ values has.
+    c.in_err-serving.ensures.none refl values.serving (subst (λ given. HasServing given values.serving) (sym (same_given (found_of c.args.matches.now))) has.serving_is)
 
 pub returns-in_err-port-clause-none : goal.returns-in_err-port-clause-none
 returns-in_err-port-clause-none c = λ _ values has.
     c.in_err-port.ensures.none refl values.port (subst (λ t. IsNumber t 1024 65472 values.port) (sym (first_value-rows (found_of c.args.matches.now) (codes "port"))) has.port_is)
-
-pub returns-in_err-pause-clause-none : goal.returns-in_err-pause-clause-none
-returns-in_err-pause-clause-none c = λ _ values has.
-    c.in_err-pause.ensures.none refl values.pause (subst (λ t. IsNumber t 0 1000 values.pause) (sym (first_value-rows (found_of c.args.matches.now) (codes "pause"))) has.pause_is)
-
-pub returns-in_err-batch-clause-none : goal.returns-in_err-batch-clause-none
-returns-in_err-batch-clause-none c = λ _ values has.
-    c.in_err-batch.ensures.none refl values.batch (subst (λ t. IsNumber t 1 16 values.batch) (sym (first_value-rows (found_of c.args.matches.now) (codes "batch"))) has.batch_is)
 
 pub returns-in_err-report-clause-none : goal.returns-in_err-report-clause-none
 returns-in_err-report-clause-none c = λ _ values has.
@@ -43,11 +37,9 @@ returns-clause-some c =
     record {
       config_is = sym (c.in_ok-config.ensures ∙ first_value-rows found (codes "CONFIG"));
       disk_is = sym (c.in_ok-disk.ensures ∙ first_value-rows found (codes "disk"));
-      turns_are = subst (λ t. IsNumber t 1 1000000 c.in_ok-turns.turns) (first_value-rows found (codes "turns")) c.in_ok-turns.ensures.some;
+      serving_is = subst (λ given. HasServing given c.in_ok-serving.serving) (same_given found) c.in_ok-serving.ensures.some;
       format_is = subst (λ t. (c.is_set-format.result ≡ true) ↔ (t ≡ Some (codes "true"))) (first_value-rows found (codes "format")) c.is_set-format.ensures;
       port_is = subst (λ t. IsNumber t 1024 65472 c.in_ok-port.port) (first_value-rows found (codes "port")) c.in_ok-port.ensures.some;
-      pause_is = subst (λ t. IsNumber t 0 1000 c.in_ok-pause.pause) (first_value-rows found (codes "pause")) c.in_ok-pause.ensures.some;
-      batch_is = subst (λ t. IsNumber t 1 16 c.in_ok-batch.batch) (first_value-rows found (codes "batch")) c.in_ok-batch.ensures.some;
       report_is = subst (λ t. IsNumber t 0 86400 c.in_ok-report.report) (first_value-rows found (codes "report")) c.in_ok-report.ensures.some;
       leases_are = subst (λ t. (c.is_set-leases.result ≡ true) ↔ (t ≡ Some (codes "true"))) (first_value-rows found (codes "leases")) c.is_set-leases.ensures;
     }
