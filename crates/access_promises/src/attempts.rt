@@ -1,4 +1,4 @@
-//! No circuit waits for another.
+//! Each circuit has its turn.
 ghost use Rattle.std.specs.Prelude.{◌≡◌, ◌≤◌, ◌+◌, ◌*◌, ◌++◌, ◌∷◌, ℕ, List, length, Some};
 ghost use Rattle.access.specs.Access.{AccessValue};
 ghost use Rattle.access.specs.Pass.{HasMadePasses};
@@ -8,8 +8,8 @@ ghost use Rattle.access_promises.specs.Turns.{added};
 ghost use Rattle.udp.specs.History.{Entry};
 
 /// Each pass tries each circuit's sockets once, the DHCPv4 sockets in the order of the circuits and then the DHCPv6 ones. So between
-/// two tries of a socket at most one frame of each other socket is taken, whatever waits there; and no more datagrams in all than two
-/// passes take.
+/// a try of a socket and its next one at most one frame of each other socket is taken, whatever waits there; and no more datagrams in
+/// all than two passes may take.
 pub fn tries_each_socket_in_turn()
     ensures order { (n last : ℕ) (old new : AccessValue) → HasMadePasses n last old new
         → attempts_in (added old new) ≡ pass_after_pass (length old.topology.circuits) n }
