@@ -1,4 +1,6 @@
 mod AckLemmas
+mod AttemptBlocks
+mod AttemptCounts
 mod BatchLeases
 mod BatchOrder
 mod DownLemmas
@@ -11,12 +13,15 @@ mod Moves
 mod NeverTwice
 mod OneRound
 mod OpenLemmas
+mod PassAttempts
+mod PassesInTurn
 mod RoundEntries
 mod RunLemmas
 mod Serves
 mod SentLemmas
 mod ServingLemmas
 mod ShownBooks
+mod SocketsOnce
 mod StepLemmas
 mod Tried
 mod TwoRuns

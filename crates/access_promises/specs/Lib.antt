@@ -1,4 +1,5 @@
 pub mod Alone
+pub mod Attempts
 pub mod Exchanges
 pub mod Histories
 pub mod Own

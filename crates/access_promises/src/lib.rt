@@ -4,6 +4,7 @@
 #![tactic(auto)]
 
 mod answers;
+mod attempts;
 pub mod examples;
 mod histories;
 mod leases;
@@ -11,6 +12,7 @@ mod relaying;
 mod runs;
 
 pub use answers::{adds_to_the_history, serves_each_circuit_alone};
+pub use attempts::tries_each_socket_in_turn;
 pub use histories::isolation_of_histories;
 pub use leases::{
     begins_with_its_pools, each_dhcpack_grants, keeps_to_its_pools, leases_no_address_twice,
