@@ -5,6 +5,7 @@ mod DownLemmas
 mod EachBook
 mod EntryKinds
 mod ExchangeLemmas
+mod IdleTicks
 mod LeaseLemmas
 mod LeasesInRuns
 mod Moves
