@@ -1,10 +1,12 @@
 mod AckLemmas
 mod BatchLeases
 mod BatchOrder
+mod Counted
 mod DownLemmas
 mod EachBook
 mod EntryKinds
 mod ExchangeLemmas
+mod FailureLemmas
 mod IdleTicks
 mod LeaseLemmas
 mod LeasesInRuns
