@@ -80,8 +80,8 @@ reaches now [] = false
 reaches now (Receive d ∷ steps) = nat_le now d.moment
 reaches now (Tick later ∷ steps) = nat_le now later
 
--- A tick changes nothing that the next step does not, if that is at no earlier moment: it is left out. So how many rounds are made
--- before a moment is no part of what a circuit sees.
+-- A tick changes nothing that the next step does not, if that is at no earlier moment: it is left out. So while the clock is not set
+-- back, how many rounds are made before a moment is no part of what a circuit sees.
 abbrev pub without_idle_ticks : List Step → List Step
 without_idle_ticks [] = []
 without_idle_ticks (Receive d ∷ steps) = Receive d ∷ without_idle_ticks steps
