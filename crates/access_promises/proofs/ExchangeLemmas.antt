@@ -64,7 +64,7 @@ module _ (topology : Topology) (c : ℕ) (part : CircuitPart) (there : slice_get
   pub own_book : (b : Option Book) → is_own topology c d ≡ true → slice_get books c ≡ Some b → slice_get (received topology d fails books).books c ≡ Some (answered part d (fails part.region) b).book
   own_book b own at = ap (λ (r : Received). slice_get r.books c) (own_received b own at) ∙ get_set books c b (answered part d (fails part.region) b).book at
 
-  failed_so : is_own topology c d ≡ true → fails_of topology fails (addressee topology d) ≡ fails part.region
+  pub failed_so : is_own topology c d ≡ true → fails_of topology fails (addressee topology d) ≡ fails part.region
   failed_so own = ap (fails_of topology fails) (circuit_is c (addressee topology d) own) ∙ ap (fails_in fails) there
 
   pub own_exchange : (b : Option Book) → is_own topology c d ≡ true → slice_get books c ≡ Some b

@@ -3,10 +3,13 @@ mod AttemptBlocks
 mod AttemptCounts
 mod BatchLeases
 mod BatchOrder
+mod Counted
 mod DownLemmas
 mod EachBook
 mod EntryKinds
 mod ExchangeLemmas
+mod FailureLemmas
+mod IdleTicks
 mod LeaseLemmas
 mod LeasesInRuns
 mod Moves

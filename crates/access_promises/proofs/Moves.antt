@@ -4,7 +4,8 @@ use Rattle.std.specs.Prelude.{slice_get}
 use Rattle.std.proofs.lemmas.List.Elements.{filter_map-append}
 use Rattle.std.proofs.lemmas.List.Sorted.{IsPermutation-refl}
 use Rattle.types.specs.Delivery.{DeliveryValue}
-use Rattle.config.specs.Topology.{IsTopology, Topology}
+use Rattle.config.specs.Topology.{IsTopology, RegionsDiffer, Topology}
+use Rattle.lease_disk.specs.FileDisk.{device_of}
 use Rattle.dispatch.specs.Batch.{circuits_of}
 use Rattle.dispatch.specs.ServerValue.{ServerValue, books_in}
 use Rattle.udp.specs.History.{Entry}
@@ -13,6 +14,7 @@ use Rattle.access.specs.Batch.{AreReceivedAgain, AreReplied, HasTried, serving}
 use Rattle.access.specs.Polling.{begun, deliveries_in, delivery_in}
 use Rattle.access.specs.Turn.{Tries}
 use Rattle.access_promises.specs.Own.{replies_in, sent_reply}
+use Rattle.access_promises.proofs.Counted.{CountsEach, counts_none}
 use Rattle.access_promises.proofs.DownLemmas.{AreAnswers, AreDown, down_more, down_none, down_others}
 use Rattle.access_promises.proofs.EntryKinds.{AreOf, delivery_only, reply_only, skipped}
 use Rattle.access_promises.proofs.RoundEntries.{GoOn, go_on, go_on_more, polls_of}
@@ -76,9 +78,9 @@ moves_then now old middle new first second sound known =
 
 -- ---- the server takes nothing
 
-quiet : (now : ℕ) (old new : AccessValue) (entries : List Entry) → old.server.topology ≡ old.topology → new.topology ≡ old.topology → new.port ≡ old.port → new.server ≡ old.server → new.history ≡ old.history ++ entries
+quiet : (now : ℕ) (old new : AccessValue) (entries : List Entry) → old.server.topology ≡ old.topology → new.topology ≡ old.topology → new.port ≡ old.port → new.server ≡ old.server → new.disk ≡ old.disk → new.history ≡ old.history ++ entries
     → AreMoves old.topology old.port entries → deliveries_in now entries ≡ [] → replies_in entries ≡ [] → HasMoved old.topology old.port now old new
-quiet now old new entries known same port_is server history are untaken unsent = record {
+quiet now old new entries known same port_is server disk history are untaken unsent = record {
   same = same;
   port_is = port_is;
   taken = [];
@@ -92,18 +94,19 @@ quiet now old new entries known same port_is server history are untaken unsent =
     replies = unsent;
     strays = no_strays old.topology;
     each = λ c part before there at. record { after = before; alone = alone_none old.topology c part before; at = ap (λ (s : ServerValue). slice_get (books_in s) c) server ∙ at };
+    failures = subst (λ d. CountsEach old.topology [] (device_of old.disk) (device_of d)) (sym disk) (counts_none old.topology (device_of old.disk));
   };
   deliveries = untaken;
 }
 
 pub moves_none : (now : ℕ) (old : AccessValue) → Moves now old old
 moves_none now old sound known =
-    quiet now old old [] known refl refl refl (sym (append-nil old.history)) (moves_add old.topology old.port).none refl refl
+    quiet now old old [] known refl refl refl refl (sym (append-nil old.history)) (moves_add old.topology old.port).none refl refl
 
 carried : (n now count : ℕ) (Try : Tries) (old new : AccessValue) → (n == 2) ≡ false → (n == 3) ≡ false → old.server.topology ≡ old.topology → (tries : HasCarried Try count old new) → AreOf n tries.entries
     → AreMoves old.topology old.port tries.entries → HasMoved old.topology old.port now old new
 carried n now count Try old new untaken unsent known tries of are =
-    quiet now old new tries.entries known (ap (λ (a : AccessValue). a.topology) tries.after) (ap (λ (a : AccessValue). a.port) tries.after) (ap (λ (a : AccessValue). a.server) tries.after) (ap (λ (a : AccessValue). a.history) tries.after) are
+    quiet now old new tries.entries known (ap (λ (a : AccessValue). a.topology) tries.after) (ap (λ (a : AccessValue). a.port) tries.after) (ap (λ (a : AccessValue). a.server) tries.after) (ap (λ (a : AccessValue). a.disk) tries.after) (ap (λ (a : AccessValue). a.history) tries.after) are
     (skipped (delivery_in now) 2 n (delivery_only now) untaken tries.entries of) (skipped sent_reply 3 n reply_only unsent tries.entries of)
 
 -- ---- each of the three
@@ -120,10 +123,10 @@ moves_down now count Down old new gives tries sound known =
     carried 4 now count Down old new refl refl known tries are.0
     (record { on = go_on 4 refl tries.entries are.0; up = up_others old.topology 4 refl tries.entries are.0; down = are.1 })
 
-serves_once : (now count : ℕ) (old new : AccessValue) → (served : HasServed now count old new)
+serves_once : (now count : ℕ) (old new : AccessValue) → RegionsDiffer old.server.topology.circuits → (served : HasServed now count old new)
     → Serves (AreOf 3) old.server.topology (deliveries_in now served.entries) (serving old.server old.disk old.tally (old.history ++ served.entries)) (serving_in new)
-serves_once now count old new served =
-    serves_by (deliveries_in now served.entries) (circuits_of old.server.topology (deliveries_in now served.entries)) served.answers (serving old.server old.disk old.tally (old.history ++ served.entries)) served.saved (serving_in new) served.tally served.history served.received
+serves_once now count old new apart served =
+    serves_by (deliveries_in now served.entries) (circuits_of old.server.topology (deliveries_in now served.entries)) served.answers (serving old.server old.disk old.tally (old.history ++ served.entries)) served.saved (serving_in new) served.tally served.history apart served.received
     (subst (λ n. HasTried (AreReplied (deliveries_in now served.entries) (circuits_of old.server.topology (deliveries_in now served.entries)) served.answers n) served.saved.tally served.tally served.saved.history served.history) served.many served.replied)
     (subst (λ n. AreReceivedAgain (deliveries_in now served.entries) served.answers n (serving served.saved.server served.saved.disk served.tally served.history) (serving_in new)) served.many served.again)
 
@@ -142,6 +145,7 @@ moves_served now count old new served sound known = record {
     replies = filter_map-append sent_reply served.entries its.entries ∙ (ap (λ l. l ++ replies_in its.entries) (skipped sent_reply 3 2 reply_only refl served.entries polled) ∙ its.replies);
     strays = its.strays;
     each = its.each;
+    failures = its.failures;
   };
   deliveries = filter_map-append (delivery_in now) served.entries its.entries
       ∙ (ap (λ l. deliveries_in now served.entries ++ l) (skipped (delivery_in now) 2 3 (delivery_only now) refl its.entries its.are) ∙ append-nil (deliveries_in now served.entries));
@@ -150,7 +154,8 @@ moves_served now count old new served sound known = record {
   polled = polls_of (begun old.batch old.first) served.entries served.polled.tries
 
   its : Serves (AreOf 3) old.topology (deliveries_in now served.entries) (serving old.server old.disk old.tally (old.history ++ served.entries)) (serving_in new)
-  its = subst (λ top. Serves (AreOf 3) top (deliveries_in now served.entries) (serving old.server old.disk old.tally (old.history ++ served.entries)) (serving_in new)) known (serves_once now count old new served)
+  its = subst (λ top. Serves (AreOf 3) top (deliveries_in now served.entries) (serving old.server old.disk old.tally (old.history ++ served.entries)) (serving_in new)) known
+      (serves_once now count old new (subst (λ (top : Topology). RegionsDiffer top.circuits) (sym known) sound.regions) served)
 
 -- Frames are carried up, the server does its part, and answers are carried down by what the configuration was before.
 pub moves_through : (now count : ℕ) (Down : Topology → ℕ → Tries) (old relayed served new : AccessValue) → ((topology : Topology) (port : ℕ) → Gives (Down topology port) (AreAnswers topology port))

@@ -13,6 +13,7 @@ use Rattle.types.specs.Delivery.{DeliveryValue}
 use Rattle.config.specs.CircuitPart.{CircuitPart}
 use Rattle.config.specs.Topology.{IsTopology, Topology}
 use Rattle.circuit_server.specs.Server.{book_at}
+use Rattle.lease_disk.specs.FileDisk.{device_of}
 use Rattle.dispatch.specs.ServerValue.{books_in}
 use Rattle.udp.specs.History.{Entry, Read, Ticked, with_entry}
 use Rattle.access.specs.Access.{AccessValue, HasServedTurns}
@@ -21,6 +22,7 @@ use Rattle.access.specs.Polling.{deliveries_in}
 use Rattle.access_promises.specs.Exchanges.{AreAlone, AreExchanges, Exchange, DropsStray, book_in, reply_of}
 use Rattle.access_promises.specs.Own.{Receive, Tick, is_own, replies_in, sent_reply, steps_in, steps_of, taken_at_server}
 use Rattle.access_promises.specs.Turns.{AreRounds, IsRun, Turn, added, turns_in}
+use Rattle.access_promises.proofs.Counted.{CountsEach, counts_none, counts_then}
 use Rattle.access_promises.proofs.DownLemmas.{AreDown, down_more, down_none, down_other}
 use Rattle.access_promises.proofs.EachBook.{has_book}
 use Rattle.access_promises.proofs.Moves.{HasMoved}
@@ -48,6 +50,7 @@ pub record Ran (topology : Topology) (port : ℕ) (old new : AccessValue) : Type
   pub replies : replies_in entries ≡ filter_map reply_of exchanges
   pub strays : All (DropsStray topology) exchanges
   pub each : (c : ℕ) (part : CircuitPart) → slice_get topology.circuits c ≡ Some part → AreAlone topology c part (steps_in topology c entries) exchanges (book_in old.server c) (book_in new.server c)
+  pub failures : CountsEach topology exchanges (device_of old.disk) (device_of new.disk)
 
 ran_none : (old new : AccessValue) → old.server.topology ≡ old.topology → new ≡ old → Ran old.topology old.port old new
 ran_none old new known is = subst (λ (a : AccessValue). Ran old.topology old.port old a) (sym is) (record {
@@ -64,6 +67,7 @@ ran_none old new known is = subst (λ (a : AccessValue). Ran old.topology old.po
   replies = refl;
   strays = no_strays old.topology;
   each = λ c part there. alone_none old.topology c part (book_in old.server c);
+  failures = counts_none old.topology (device_of old.disk);
 })
 
 -- ---- a round
@@ -126,6 +130,7 @@ module _ (topology : Topology) (port now : ℕ) (reading : Option ℕ) (old last
     replies = filter_map-append sent_reply body (Ticked now ∷ []) ∙ (append-nil (replies_in moved.serves.entries) ∙ moved.serves.replies);
     strays = moved.serves.strays;
     each = round_alone;
+    failures = subst (λ d. CountsEach topology moved.serves.exchanges (device_of old.disk) (device_of d)) (sym (ap (λ (a : AccessValue). a.disk) ticks.rest)) moved.serves.failures;
   }
 
 ran_once : (old new : AccessValue) → IsTopology old.topology → old.server.topology ≡ old.topology → IsOneRound old new → Ran old.topology old.port old new
@@ -158,6 +163,7 @@ ran_then topology port old middle new one two = record {
       subst (λ steps. AreAlone topology c part steps (one.exchanges ++ two.exchanges) (book_in old.server c) (book_in new.server c))
       (sym (ap (flat_map (steps_of topology c)) (one.whole two.entries) ∙ flat_map-append (steps_of topology c) (turns_in one.entries) (turns_in two.entries)))
       (alone_more topology c part (steps_in topology c one.entries) (steps_in topology c two.entries) one.exchanges two.exchanges (book_in old.server c) (book_in middle.server c) (book_in new.server c) (one.each c part there) (two.each c part there));
+  failures = counts_then topology one.exchanges two.exchanges (device_of old.disk) (device_of middle.disk) (device_of new.disk) one.failures two.failures;
 }
 
 rounds_ran : (n now : ℕ) (old new : AccessValue) → IsTopology old.topology → old.server.topology ≡ old.topology → AreRounds n now old new → Ran old.topology old.port old new
@@ -187,6 +193,7 @@ run_exchanges old new run =
         sent = subst (λ es. replies_in es ≡ filter_map reply_of ran.exchanges) is ran.replies;
         strays = ran.strays;
         each = λ c part there. subst (λ es. AreAlone old.topology c part (steps_in old.topology c es) ran.exchanges (book_in old.server c) (book_in new.server c)) is (ran.each c part there);
+        failures = λ c part there. (ran.failures c part there).failed;
       },
     )
 

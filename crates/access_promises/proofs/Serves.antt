@@ -11,10 +11,12 @@ use Rattle.config.specs.CircuitPart.{CircuitPart}
 use Rattle.config.specs.Topology.{Topology}
 use Rattle.circuit_server.specs.Server.{Book}
 use Rattle.dispatch.specs.ServerValue.{books_in}
+use Rattle.lease_disk.specs.FileDisk.{device_of}
 use Rattle.udp.specs.History.{Entry}
 use Rattle.access.specs.Batch.{Serving}
 use Rattle.access_promises.specs.Exchanges.{AreAlone, Exchange, DropsStray, reply_of}
 use Rattle.access_promises.specs.Own.{Receive, Step, is_own, replies_in, sent_reply}
+use Rattle.access_promises.proofs.Counted.{CountsEach, counts_none, counts_then}
 use Rattle.access_promises.proofs.StepLemmas.{alone_more, alone_none}
 use Rattle.access_promises.proofs.Tried.{AddsUp}
 
@@ -49,6 +51,7 @@ pub record Serves (Are : List Entry → Type 0) (topology : Topology) (ds : List
   pub replies : replies_in entries ≡ filter_map reply_of exchanges
   pub strays : All (DropsStray topology) exchanges
   pub each : ServesEachOwn topology ds exchanges (books_in old.server) (books_in new.server)
+  pub failures : CountsEach topology exchanges (device_of old.disk) (device_of new.disk)
 
 pub no_strays : (topology : Topology) → All (DropsStray topology) []
 no_strays topology k d below = absurd (omega (arith, below))
@@ -64,6 +67,7 @@ serves_none Are adds topology s t its same = subst (λ u. Serves Are topology []
   replies = refl;
   strays = no_strays topology;
   each = λ c part before there at. record { after = before; alone = alone_none topology c part before; at = at };
+  failures = counts_none topology (device_of s.disk);
 })
 
 pub own_then : (topology : Topology) (c : ℕ) (part : CircuitPart) (ss ts : List Step) (xs ys : List Exchange) (old middle new : List (Option Book)) (before : Option Book)
@@ -86,4 +90,5 @@ serves_then Are adds topology ds es s t u one two = record {
       let first = one.each c part before there at in
       subst (λ steps. HasServedOwn topology c part steps (one.exchanges ++ two.exchanges) (books_in s.server) (books_in u.server) before) (sym (receives_more topology c ds es))
       (own_then topology c part (receives topology c ds) (receives topology c es) one.exchanges two.exchanges (books_in s.server) (books_in t.server) (books_in u.server) before first (two.each c part first.after there first.at));
+  failures = counts_then topology one.exchanges two.exchanges (device_of s.disk) (device_of t.disk) (device_of u.disk) one.failures two.failures;
 }

@@ -9,7 +9,8 @@ use Rattle.std.proofs.lemmas.List.Elements.{All-cons, filter-append, filter_map-
 use Rattle.std.proofs.lemmas.Option.{same_Some}
 use Rattle.types.specs.Delivery.{DeliveryValue}
 use Rattle.config.specs.CircuitPart.{CircuitPart}
-use Rattle.config.specs.Topology.{Topology}
+use Rattle.config.specs.Topology.{RegionsDiffer, Topology}
+use Rattle.lease_disk.specs.FileDisk.{device_of}
 use Rattle.circuit_server.specs.Server.{Book}
 use Rattle.dispatch.specs.Answers.{circuit_at}
 use Rattle.dispatch.specs.Batch.{comes_again, part_received}
@@ -25,8 +26,10 @@ use Rattle.access.specs.Turn.{GoesOn}
 use Rattle.access_promises.specs.Exchanges.{Exchange, DropsStray, reply_of}
 use Rattle.access_promises.specs.Own.{Receive, is_own, replies_in, sent_reply}
 use Rattle.access_promises.proofs.BatchOrder.{Answer, Pair, answers_after, answers_are, batch_firsts, chosen, datagrams_of, firsts, made, repeats}
+use Rattle.access_promises.proofs.EachBook.{has_book}
 use Rattle.access_promises.proofs.EntryKinds.{AreOf, kinds_add, kinds_more}
 use Rattle.access_promises.proofs.ExchangeLemmas.{exchange, one_exchange, stray_one}
+use Rattle.access_promises.proofs.FailureLemmas.{counts_alone, counts_together}
 use Rattle.access_promises.proofs.Serves.{HasServedOwn, Serves, datagrams, no_strays, serves_none, serves_then}
 
 -- ---- one more of a list
@@ -111,8 +114,8 @@ module _ (topology : Topology) (fails : ℕ → Bool) (old : List (Option Book))
 -- ---- those that are received again
 
 -- one, alone
-received_again : (d : DeliveryValue) (s t : Serving) → IsAnswered d s t → Serves (AreOf 3) s.server.topology (d ∷ []) s t
-received_again d s t answered = record {
+received_again : (d : DeliveryValue) (s t : Serving) → RegionsDiffer s.server.topology.circuits → IsAnswered d s t → Serves (AreOf 3) s.server.topology (d ∷ []) s t
+received_again d s t apart answered = record {
   its = answered.stays.topology;
   entries = answered.rest;
   history = answered.history;
@@ -124,23 +127,24 @@ received_again d s t answered = record {
   each = λ c part before there at.
       let one = one_exchange s.server.topology c part there d (failed_in s t) (books_in s.server) before at in
       record { after = one.after; alone = one.alone; at = ap (λ books. slice_get books c) answered.books ∙ one.at };
+  failures = counts_alone s.server.topology apart d (made_of d s t).answer (books_in s.server) (device_of s.disk) (device_of t.disk) answered.calls;
 } where
   sent : AreSent (exchange s.server.topology (failed_in s t) d (made_of d s t).answer ∷ []) answered.rest
   sent = answer_sent (exchange s.server.topology (failed_in s t) d (made_of d s t).answer) answered.rest answered.became (made_of d s t).answer refl answered.goes_on
 
-again_one : (topology : Topology) (d : DeliveryValue) (repeated : Bool) (s t : Serving) → s.server.topology ≡ topology → IsReceivedAgain repeated d s t → Serves (AreOf 3) topology (cond repeated (d ∷ []) []) s t
-again_one topology d true s t its received = subst (λ top. Serves (AreOf 3) top (d ∷ []) s t) its (received_again d s t received)
-again_one topology d false s t its same = serves_none (AreOf 3) (kinds_add 3) topology s t its same
+again_one : (topology : Topology) → RegionsDiffer topology.circuits → (d : DeliveryValue) (repeated : Bool) (s t : Serving) → s.server.topology ≡ topology → IsReceivedAgain repeated d s t → Serves (AreOf 3) topology (cond repeated (d ∷ []) []) s t
+again_one topology apart d true s t its received = subst (λ top. Serves (AreOf 3) top (d ∷ []) s t) its (received_again d s t (subst (λ (top : Topology). RegionsDiffer top.circuits) (sym its) apart) received)
+again_one topology apart d false s t its same = serves_none (AreOf 3) (kinds_add 3) topology s t its same
 
-again_all : (topology : Topology) (taken : List DeliveryValue) (answers : List Answer) (n : ℕ) (s t : Serving) → s.server.topology ≡ topology → AreReceivedAgain taken answers n s t
+again_all : (topology : Topology) → RegionsDiffer topology.circuits → (taken : List DeliveryValue) (answers : List Answer) (n : ℕ) (s t : Serving) → s.server.topology ≡ topology → AreReceivedAgain taken answers n s t
     → Serves (AreOf 3) topology (repeats (take n taken) (take n answers)) s t
-again_all topology taken answers zero s t its same = serves_none (AreOf 3) (kinds_add 3) topology s t its same
-again_all topology taken answers (suc n) s t its again =
+again_all topology apart taken answers zero s t its same = serves_none (AreOf 3) (kinds_add 3) topology s t its same
+again_all topology apart taken answers (suc n) s t its again =
     let one = again.2 in
-    let before = again_all topology taken answers n s again.0 its again.1 in
+    let before = again_all topology apart taken answers n s again.0 its again.1 in
     subst (λ ds. Serves (AreOf 3) topology ds s t) (sym (repeats_more n taken answers one.its_datagram one.its_answer one.taken_at one.answered_at))
     (serves_then (AreOf 3) (kinds_add 3) topology (repeats (take n taken) (take n answers)) (repeat_of one.its_datagram one.its_answer) s again.0 t before
-    (again_one topology one.its_datagram (is_repeated one.its_answer) again.0 t before.its one.received))
+    (again_one topology apart one.its_datagram (is_repeated one.its_answer) again.0 t before.its one.received))
 
 -- ---- those that are received together
 
@@ -164,10 +168,10 @@ made_datagrams topology fails old [] = refl
 made_datagrams topology fails old (p ∷ ps) = ap (λ ds. p.0 ∷ ds) (made_datagrams topology fails old ps)
 
 -- the first datagrams of the circuits, and the replies to them
-together : (taken : List DeliveryValue) (circuits : List (Option ℕ)) (answers : List Answer) (s saved : Serving) (tally : Tally) (history : List Entry) → IsReceived taken answers s saved
+together : (taken : List DeliveryValue) (circuits : List (Option ℕ)) (answers : List Answer) (s saved : Serving) (tally : Tally) (history : List Entry) → RegionsDiffer s.server.topology.circuits → IsReceived taken answers s saved
     → HasTried (AreReplied taken circuits answers (length taken)) saved.tally tally saved.history history
     → Serves (AreOf 3) s.server.topology (datagrams_of (firsts taken answers)) s (serving saved.server saved.disk tally history)
-together taken circuits answers s saved tally history received replied = record {
+together taken circuits answers s saved tally history apart received replied = record {
   its = received.stays.topology;
   entries = replied.entries;
   history = replied.history ∙ ap (λ (u : Serving). u.history ++ replied.entries) received.rest;
@@ -181,6 +185,7 @@ together taken circuits answers s saved tally history received replied = record 
   each = λ c part before there at.
       let first = batch_firsts s.server.topology (failed_in s saved) (books_in s.server) c part there taken (books_in saved.server) answers received.batch before at in
       record { after = first.after; alone = first.alone; at = first.at };
+  failures = counts_together s.server.topology apart taken answers (books_in s.server) (books_in saved.server) (device_of s.disk) (device_of saved.disk) (has_book s.server) received.batch received.calls;
 } where
   all_of_them : firsts (take (length taken) taken) (take (length taken) answers) ≡ firsts taken answers
   all_of_them = ap₂ firsts (take_whole taken) (ap (λ n. take n answers) (sym received.batch.count) ∙ take_whole answers)
@@ -216,31 +221,32 @@ reordered topology ds es s t serves moved same = record {
   strays = serves.strays;
   each = λ c part before there at.
       subst (λ own. HasServedOwn topology c part (map Receive own) serves.exchanges (books_in s.server) (books_in t.server) before) (same c part before there at) (serves.each c part before there at);
+  failures = serves.failures;
 }
 
-in_order : (taken : List DeliveryValue) (circuits : List (Option ℕ)) (answers : List Answer) (s saved t : Serving) (tally : Tally) (history : List Entry) → IsReceived taken answers s saved
+in_order : (taken : List DeliveryValue) (circuits : List (Option ℕ)) (answers : List Answer) (s saved t : Serving) (tally : Tally) (history : List Entry) → RegionsDiffer s.server.topology.circuits → IsReceived taken answers s saved
     → HasTried (AreReplied taken circuits answers (length taken)) saved.tally tally saved.history history
     → AreReceivedAgain taken answers (length taken) (serving saved.server saved.disk tally history) t
     → Serves (AreOf 3) s.server.topology taken s t
-in_order taken circuits answers s saved t tally history received replied again =
+in_order taken circuits answers s saved t tally history apart received replied again =
     reordered s.server.topology (datagrams_of (firsts taken answers) ++ repeats taken answers) taken s t
     (serves_then (AreOf 3) (kinds_add 3) s.server.topology (datagrams_of (firsts taken answers)) (repeats taken answers) s (serving saved.server saved.disk tally history) t
-    (together taken circuits answers s saved tally history received replied)
+    (together taken circuits answers s saved tally history apart received replied)
     (subst (λ ds. Serves (AreOf 3) s.server.topology ds (serving saved.server saved.disk tally history) t)
     (ap₂ repeats (take_whole taken) (ap (λ n. take n answers) (sym received.batch.count) ∙ take_whole answers))
-    (again_all s.server.topology taken answers (length taken) (serving saved.server saved.disk tally history) t received.stays.topology again)))
+    (again_all s.server.topology apart taken answers (length taken) (serving saved.server saved.disk tally history) t received.stays.topology again)))
     (split taken answers received.batch.count)
     (λ c part before there at.
     let first = batch_firsts s.server.topology (failed_in s saved) (books_in s.server) c part there taken (books_in saved.server) answers received.batch before at in
     filter-append (is_own s.server.topology c) (datagrams_of (firsts taken answers)) (repeats taken answers) ∙ first.order)
 
-pub serves_by : (taken : List DeliveryValue) (circuits : List (Option ℕ)) (answers : List Answer) (s saved t : Serving) (tally : Tally) (history : List Entry) → AreReceived taken answers s saved
+pub serves_by : (taken : List DeliveryValue) (circuits : List (Option ℕ)) (answers : List Answer) (s saved t : Serving) (tally : Tally) (history : List Entry) → RegionsDiffer s.server.topology.circuits → AreReceived taken answers s saved
     → HasTried (AreReplied taken circuits answers (length taken)) saved.tally tally saved.history history
     → AreReceivedAgain taken answers (length taken) (serving saved.server saved.disk tally history) t
     → Serves (AreOf 3) s.server.topology taken s t
-serves_by [] circuits answers s saved t tally history same replied again =
+serves_by [] circuits answers s saved t tally history apart same replied again =
     let whole : t ≡ serving saved.server saved.disk tally history = again in
     let counted : tally ≡ saved.tally = replied.tally ∙ ap (λ os. tallied_all os saved.tally) replied.tried.1 in
     let grown : history ≡ saved.history = replied.history ∙ (ap (λ es. saved.history ++ es) replied.tried.0 ∙ append-nil saved.history) in
     serves_none (AreOf 3) (kinds_add 3) s.server.topology s t refl (whole ∙ (ap₂ (λ (u : Tally) (h : List Entry). serving saved.server saved.disk u h) counted grown ∙ same))
-serves_by (d ∷ taken) circuits answers s saved t tally history received replied again = in_order (d ∷ taken) circuits answers s saved t tally history received replied again
+serves_by (d ∷ taken) circuits answers s saved t tally history apart received replied again = in_order (d ∷ taken) circuits answers s saved t tally history apart received replied again

@@ -41,10 +41,10 @@ module _ (topology : Topology) (c : ℕ) (part : CircuitPart) where
   abbrev failed : List Exchange → List Bool
   failed = failed_saves topology c
 
-  mapped : {A : Type 0} (f : Exchange → A) (xs ys : List Exchange) → map f (own (xs ++ ys)) ≡ map f (own xs) ++ map f (own ys)
+  pub mapped : {A : Type 0} (f : Exchange → A) (xs ys : List Exchange) → map f (own (xs ++ ys)) ≡ map f (own xs) ++ map f (own ys)
   mapped f xs ys = ap (map f) (filter-append (λ x. is_own topology c x.datagram) xs ys) ∙ map-append f (own xs) (own ys)
 
-  size_of : (s : List Step) (xs : List Exchange) → map (λ (x : Exchange). x.datagram) (own xs) ≡ filter_map received_by s → length (failed xs) ≡ length (filter_map received_by s)
+  pub size_of : (s : List Step) (xs : List Exchange) → map (λ (x : Exchange). x.datagram) (own xs) ≡ filter_map received_by s → length (failed xs) ≡ length (filter_map received_by s)
   size_of s xs same = length_map (λ (x : Exchange). x.failed) (own xs) ∙ (sym (length_map (λ (x : Exchange). x.datagram) (own xs)) ∙ ap length same)
 
   -- one after the other

@@ -1,11 +1,13 @@
 -- What the server answered in a run.
 use Rattle.std.specs.Prelude.{◌≡◌, ℕ, Bool, List, map, Option, Some, None, option_map, slice_get, Result, Err, All}
-use Rattle.std.specs.List.{filter, filter_map}
+use Rattle.std.specs.List.{filter, filter_map, list_any}
 use Rattle.std.specs.List.Sorted.{IsPermutation}
 use Rattle.std.specs.Option.{option_flatten}
 use Rattle.std.specs.Result.{result_ok}
 use Rattle.types.specs.Delivery.{DeliveryValue}
 use Rattle.types.specs.declared.discard.Discard.{Discard}
+use Rattle.lease_disk.specs.Device.{has_failed}
+use Rattle.lease_disk.specs.FileDisk.{device_of}
 use Rattle.config.specs.CircuitPart.{CircuitPart}
 use Rattle.config.specs.Topology.{Topology}
 use Rattle.requests.specs.Addressee.{addressee}
@@ -66,3 +68,6 @@ pub record AreExchanges (old new : AccessValue) (exchanges : List Exchange) : Ty
   pub strays : All (DropsStray old.topology) exchanges
   pub each : (c : ℕ) (part : CircuitPart) → slice_get old.topology.circuits c ≡ Some part
       → AreAlone old.topology c part (steps_in old.topology c (added old new)) exchanges (book_in old.server c) (book_in new.server c)
+  -- The device counts a failed call of a circuit's region in the run exactly if one of the circuit's saves failed.
+  pub failures : (c : ℕ) (part : CircuitPart) → slice_get old.topology.circuits c ≡ Some part
+      → has_failed (device_of old.disk) (device_of new.disk) part.region ≡ list_any (λ f. f) (failed_saves old.topology c exchanges)

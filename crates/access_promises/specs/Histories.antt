@@ -4,18 +4,18 @@ use Rattle.std.specs.List.{filter_map}
 use Rattle.config.specs.Topology.{Topology}
 use Rattle.udp.specs.History.{Entry}
 use Rattle.access_promises.specs.Exchanges.{Exchange, own_exchanges, reply_of}
-use Rattle.access_promises.specs.Own.{Packet, Relayed, Reply, Step, datagrams_in, frames_in, relayed_in, sent_in, steps_in}
+use Rattle.access_promises.specs.Own.{Packet, Relayed, Reply, Step, datagrams_in, frames_in, relayed_in, sent_in, steps_in, without_idle_ticks}
 
 pub record Taken : Type 0 where
   -- the frames at its sockets
   pub frames : List Packet
-  -- the datagrams at the server, and the moments of the turns and passes
+  -- the datagrams at the server, and the moments of the turns and passes but for those that the next step makes up for
   pub steps : List Step
   -- the datagrams at the relays
   pub datagrams : List Packet
 
 abbrev pub taken_for : Topology → ℕ → List Entry → Taken
-taken_for topology c entries = record { frames = frames_in c entries; steps = steps_in topology c entries; datagrams = datagrams_in topology c entries }
+taken_for topology c entries = record { frames = frames_in c entries; steps = without_idle_ticks (steps_in topology c entries); datagrams = datagrams_in topology c entries }
 
 pub record SentFor : Type 0 where
   -- from its relay to the server, after each of its frames

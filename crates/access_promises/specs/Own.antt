@@ -1,5 +1,5 @@
 -- What of a history is one circuit's: what was taken for it, and what was sent for it.
-use Rattle.std.specs.Prelude.{ℕ, ◌==◌, Bool, false, List, [], ◌∷◌, ◌++◌, map, Option, Some, None, option_map, Result, Ok, Err, slice_get, if◌then◌else◌}
+use Rattle.std.specs.Prelude.{ℕ, ◌==◌, nat_le, Bool, false, List, [], ◌∷◌, ◌++◌, map, Option, Some, None, option_map, Result, Ok, Err, slice_get, if◌then◌else◌}
 use Rattle.std.specs.List.{cons_option, filter, filter_map, flat_map}
 use Rattle.types.specs.Delivery.{DeliveryValue}
 use Rattle.types.specs.declared.addr.Source.{Source}
@@ -73,6 +73,19 @@ steps_of topology c turn = map Receive (filter (is_own topology c) (deliveries_i
 -- The datagrams of circuit c that were taken at the server, and the moments with which the turns and passes ended.
 abbrev pub steps_in : Topology → ℕ → List Entry → List Step
 steps_in topology c entries = flat_map (steps_of topology c) (turns_in entries)
+
+-- whether the next step moves the clock to this moment or a later one
+abbrev pub reaches : ℕ → List Step → Bool
+reaches now [] = false
+reaches now (Receive d ∷ steps) = nat_le now d.moment
+reaches now (Tick later ∷ steps) = nat_le now later
+
+-- A tick changes nothing that the next step does not, if that is at no earlier moment: it is left out. So while the clock is not set
+-- back, how many rounds are made before a moment is no part of what a circuit sees.
+abbrev pub without_idle_ticks : List Step → List Step
+without_idle_ticks [] = []
+without_idle_ticks (Receive d ∷ steps) = Receive d ∷ without_idle_ticks steps
+without_idle_ticks (Tick now ∷ steps) = if reaches now steps then without_idle_ticks steps else Tick now ∷ without_idle_ticks steps
 
 -- all datagrams that were taken at the server, each at the moment of its turn or pass
 abbrev pub taken_at_server : List Entry → List DeliveryValue

@@ -1,7 +1,17 @@
 //! The definitions on worked examples, computed by the prover.
 ghost use Rattle.std.specs.Prelude.{◌≡◌, ℕ, List, [], ◌∷◌, true, false, Option, Some, None, Ok, slice_get};
 ghost use Rattle.access_promises.specs.Exchanges.{Exchange};
-ghost use Rattle.access_promises.specs.Own.{Receive, Tick, frames_in, packet, relayed_in, replies_in, sent_in, taken_at_server};
+ghost use Rattle.access_promises.specs.Own.{
+  Receive,
+  Tick,
+  frames_in,
+  packet,
+  relayed_in,
+  replies_in,
+  sent_in,
+  taken_at_server,
+  without_idle_ticks,
+};
 ghost use Rattle.access_promises.specs.Transactions.{lines_of, transactions};
 ghost use Rattle.access_promises.specs.Turns.{turns_in};
 ghost use Rattle.circuit_server.specs.Answered.{answered};
@@ -25,6 +35,16 @@ pub fn turns_end_with_their_moments()
     ensures taken { (a b : Source) (m n : List ℕ)
         → taken_at_server (Took (Server V4) a m ∷ Empty (Server V6) ∷ Took (Circuit 0 V4) b n ∷ Ticked 3
         ∷ Took (Server V6) b n ∷ Ticked 5 ∷ []) ≡ delivery V4 a 3 m ∷ delivery V6 b 5 n ∷ [] }
+{}
+
+/// A tick that the next step makes up for is left out. One after which the next step is at an earlier moment stays, and so does the
+/// last one.
+pub fn idle_ticks_are_left_out()
+    ensures idle { (a : Source) (m : List ℕ)
+        → without_idle_ticks (Tick 5 ∷ Tick 6 ∷ Receive (delivery V4 a 6 m) ∷ Tick 6 ∷ Tick 7 ∷ [])
+        ≡ Receive (delivery V4 a 6 m) ∷ Tick 7 ∷ [] }
+    ensures kept { (a : Source) (m : List ℕ)
+        → without_idle_ticks (Tick 7 ∷ Receive (delivery V4 a 6 m) ∷ Tick 6 ∷ []) ≡ Tick 7 ∷ Receive (delivery V4 a 6 m) ∷ Tick 6 ∷ [] }
 {}
 
 /// What a relay's socket sends belongs to the frame that was taken right before it, and to no other.
