@@ -3,7 +3,8 @@ its sockets take turns, and the datagram that it took last was a DISCOVER. Each 
 that the calls are a sync for all, a write for each, a sync, a write for each, a sync. Where a write fails its circuit is closed
 alone, and its region is not written again; where a sync fails all circuits that still save are closed. Every other client has its
 lease, and the file has it. Each row: the call that fails, the circuits whose clients have an answer, the calls, the circuits that
-answer afterwards, those with leases in the file."""
+answer afterwards, those with leases in the file. A service answers c0 and c1 before it takes what c2 and c3 sent: these are two
+batches, and a sync that fails closes the circuits of its own batch alone."""
 import itertools
 import subprocess
 
@@ -21,8 +22,8 @@ def answered(server):
     return " ".join(f"c{index}" for index, answer in enumerate(answers) if answer) or "none"
 
 
-def row(name, k):
-    server = WatchedServer("accessd", "config.toml", "leases", "--format", "--port", "23000", "--batch", "16")
+def row(name, k, *kind):
+    server = WatchedServer("accessd", "config.toml", "leases", "--format", "--port", "23000", *kind)
     watch = server.watch
     offers = [circuit.exchange(DISCOVER, 1) for circuit in of4]
     with server.standing_still():
@@ -47,6 +48,8 @@ def row(name, k):
 
 
 for k in range(1, 4):
-    row("sync", k)
+    row("sync", k, "--batch", "16")
 for k in range(1, 9):
-    row("write", k)
+    row("write", k, "--batch", "16")
+for name, k in ("sync", 1), ("sync", 3), ("sync", 4), ("sync", 6), ("write", 1), ("write", 4), ("write", 5), ("write", 8):
+    row(name, k, "--service")

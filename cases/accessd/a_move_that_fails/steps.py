@@ -1,7 +1,8 @@
 """Each of the four calls by which a start moves the first region of a file of format 1 fails in turn: circuit `a` is
 closed, `a1` is moved and served, nothing of the file's leases is lost, and the next start serves `a` too. It moves the
 region, but after the fourth call: then byte 8192 reads 2 already. At last the system lets no byte be written from 57344
-on, in the middle of what a move writes to region 1 first. The file is that of the case a_file_of_format_1."""
+on, in the middle of what a move writes to region 1 first. The file is that of the case a_file_of_format_1, which tries a start for
+turns."""
 import resource
 import shutil
 import subprocess
@@ -32,7 +33,7 @@ def show(server):
 
 def show_next():
     print("the same leases:", listed() == before)
-    server = WatchedServer("accessd", "config.toml", "leases")
+    server = WatchedServer("accessd", "config.toml", "leases", "--service")
     show(server)
     server.kill()
 
@@ -41,7 +42,7 @@ shutil.copy("leases.format1", "leases")
 before = listed()
 for k in range(1, 5):
     shutil.copy("leases.format1", "leases")
-    server = WatchedServer("accessd", "config.toml", "leases", fails=(k, CALLS))
+    server = WatchedServer("accessd", "config.toml", "leases", "--service", fails=(k, CALLS))
     print("calls:", server.watch.since(0))
     show(server)
     server.kill()
@@ -50,11 +51,11 @@ for k in range(1, 5):
 shutil.copy("leases.format1", "leases")
 print("no byte from 57344 on")
 # without restore_signals the signal of a file that may not grow ends the server
-server = WatchedServer("accessd", "config.toml", "leases", restore_signals=False,
+server = WatchedServer("accessd", "config.toml", "leases", "--service", restore_signals=False,
                        preexec_fn=lambda: resource.setrlimit(resource.RLIMIT_FSIZE, (57344, 57344)))
 show(server)
 server.kill()
 print("the same leases of a1:", listed().splitlines()[-2:] == before.splitlines()[-2:])
-server = WatchedServer("accessd", "config.toml", "leases")
+server = WatchedServer("accessd", "config.toml", "leases", "--service")
 show(server)
 server.kill()

@@ -2,16 +2,24 @@
 region is formatted by two writes, each with a sync; a lease is saved by three writes, each with a sync, before it is
 acknowledged, but the first save of a slot after the formatting has no gate to close, and no first write (docs/FORMATS.md,
 The disk). Where one of
-these calls fails, no acknowledgement is sent, and the circuit is closed."""
+these calls fails, no acknowledgement is sent, and the circuit is closed: each call fails once where turns are made and once in a
+service, which says at once that it is closed."""
 from client import DISCOVER, REQUEST, Circuit, select
 from watched_server import WatchedServer
 
 circuit = Circuit(20000)
 
 
-def started():
-    server = WatchedServer("accessd", "config.toml", "leases", "--format")
+def started(*kind):
+    server = WatchedServer("accessd", "config.toml", "leases", "--format", *kind)
     return server.watch, server
+
+
+def rest(server):
+    """What a service says of closed circuits, or why datagrams were dropped by the counts at the end."""
+    if server.is_service:
+        return [line for line in server.report().splitlines() if " closed: " in line]
+    return server.counts().splitlines()[1:]
 
 
 def request(proto, offer):
@@ -37,10 +45,11 @@ server.kill()
 
 for k in range(1, 7):
     for proto in (4, 6):
-        watch, server = started()
+        kind = ("--service",) if (proto == 4) == (k % 2 == 0) else ()
+        watch, server = started(*kind)
         offer = circuit.exchange(DISCOVER, 1)
         request(proto, offer)
         # the relay's send is the first call
         watch.fail(1 + k)
         print(request(proto, offer))
-        print(server.answer6(circuit, "SOLICIT6", 1), server.counts().splitlines()[1:])
+        print(server.answer6(circuit, "SOLICIT6", 1), rest(server))
