@@ -4,3 +4,4 @@ pub mod Histories
 pub mod Own
 pub mod Transactions
 pub mod Turns
+pub mod Waiting

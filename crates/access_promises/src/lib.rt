@@ -8,6 +8,7 @@ pub mod examples;
 mod histories;
 mod leases;
 mod relaying;
+mod waiting;
 
 pub use answers::{adds_to_the_history, serves_each_circuit_alone};
 pub use histories::isolation_of_histories;
