@@ -17,3 +17,4 @@ pub use leases::{
     replies_after_the_save, saves_before_it_acknowledges, slots_show_a_book_of_their_pools,
 };
 pub use relaying::{relays_each_circuit_down_alone, relays_each_circuit_up_alone};
+pub use waiting::leaves_nothing_waiting;
