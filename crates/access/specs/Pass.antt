@@ -1,5 +1,5 @@
 -- A pass over all circuits' sockets: in slices, of which each is answered before the next one begins.
-use Rattle.std.specs.Prelude.{◌≡◌, ◌≤◌, ◌+◌, ◌==◌, ◌⊎◌, ℕ, zero, suc, Bool, true, false, List, [], length}
+use Rattle.std.specs.Prelude.{◌≡◌, ◌≤◌, ◌+◌, ◌*◌, ◌==◌, ◌⊎◌, ℕ, zero, suc, Bool, true, false, List, [], length}
 use Rattle.types.specs.declared.dest.Proto.{Proto}
 use Rattle.types.specs.declared.dest.Proto.TheVariants.{V4, V6}
 use Rattle.config.specs.Topology.{Topology}
@@ -100,13 +100,14 @@ pub record HasPassed (now count : ℕ) (old new : AccessValue) : Type 0 where
 
 -- ---- passes
 
--- The clock was read, and a pass was made at its moment.
+-- The clock was read, and a pass was made at its moment, in which at most so many datagrams were taken.
 pub record HasPassedOnce (before now : ℕ) (old new : AccessValue) : Type 0 where
   pub read : AccessValue
   pub count : ℕ
   pub reads : HasRead before now old.history read.history
   pub rest : read ≡ record old { history = read.history }
   pub pass : HasPassed now count read new
+  pub few : count ≤ 38 * (length old.topology.circuits + 15)
 
 -- So many passes, the last one at this moment: each is at the moment of a reading of its own.
 abbrev pub HasMadePasses : ℕ → ℕ → AccessValue → AccessValue → Type 0
