@@ -23,7 +23,7 @@ use Rattle.dispatch.specs.Answers.{answer_by}
 use Rattle.dispatch.specs.Batch.{IsBatchOfLeases, IsWrittenTogether, batch_fault, batch_saves, comes_again, deliveries, is_circuit, is_named}
 use Rattle.dispatch.specs.OneByOne.{AreOfOthers}
 use Rattle.dispatch.specs.Parts.{IsReceivedBatch}
-use Rattle.dispatch.specs.ReceivedAlone.{IsReceived}
+use Rattle.dispatch.specs.ReceivedAlone.{IsReceivedAlone}
 use Rattle.dispatch.specs.Received.{addressee_leases, addressee_saves, leases_with, received, received_leases, received_saves}
 use Rattle.dispatch.specs.ServerValue.{ServerValue, books_in, circuits_in, leases_in}
 use Rattle.dispatch.proofs.BatchLemmas.{answer_is}
@@ -179,7 +179,7 @@ books_shown regions xs c = slice_get-map server_book xs c ∙ one (slice_get xs 
   one (Some x) = refl
 
 pub received_batch_of_one : (tells : Bool) (d : DeliveryValue) (s later_s : ServerValue) (was later : Device) (result : Result (Unit {0}) Discard) (out : List ℕ) (given : List (Result (List ℕ) Discard))
-    → IsReceived tells d result out s later_s was later → given ≡ answer_by result out ∷ [] → IsReceivedBatch tells (d ∷ []) given s later_s was later
+    → IsReceivedAlone tells d result out s later_s was later → given ≡ answer_by result out ∷ [] → IsReceivedBatch tells (d ∷ []) given s later_s was later
 received_batch_of_one tells d s later_s was later result out given one is =
     let t = s.topology in
     let saves = received_saves t d (books_in s) in

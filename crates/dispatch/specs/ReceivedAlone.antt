@@ -19,7 +19,7 @@ abbrev pub IsFound : Topology → DeliveryValue → Result (ℕ × RelayedMessag
 IsFound topology d (Ok (c, relayed)) = (addressee topology d ≡ Ok c) × (c < length topology.circuits) × IsRelayedMessage d.proto d.bytes relayed
 IsFound topology d (Err why) = addressee topology d ≡ Err why
 
-pub record IsReceived (tells : Bool) (d : DeliveryValue) (result : Result (Unit {0}) Discard) (out : List ℕ) (server later : ServerValue) (device later_device : Device) : Type 0 where
+pub record IsReceivedAlone (tells : Bool) (d : DeliveryValue) (result : Result (Unit {0}) Discard) (out : List ℕ) (server later : ServerValue) (device later_device : Device) : Type 0 where
   pub answer : IsAnswer (received server.topology d (has_failed device later_device) (books_in server)).answer result out
   pub books : books_in later ≡ (received server.topology d (has_failed device later_device) (books_in server)).books
   pub unchanged : IfErr (addressee server.topology d) (λ why. (result ≡ Err why) × (later ≡ server) × (later_device ≡ device))

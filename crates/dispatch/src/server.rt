@@ -13,7 +13,7 @@ ghost use Rattle.circuit_server.specs.Leases.{Leases, after_tick, found_leases, 
 ghost use Rattle.dispatch.specs.Regions.{AreRegionsMigrated, AreSynced, HasRegions, KeepsOthers};
 ghost use Rattle.dispatch.specs.Restarted.{IsOpened, IsRestartOf};
 ghost use Rattle.dispatch.specs.Received.{received, received_leases, received_saves};
-ghost use Rattle.dispatch.specs.ReceivedAlone.{IsFound, IsReceived};
+ghost use Rattle.dispatch.specs.ReceivedAlone.{IsFound, IsReceivedAlone};
 ghost use Rattle.circuit_server.specs.Answered.{IsAnswer, fails_at};
 ghost use Rattle.circuit_server.specs.Calls.{IsCalledToSaveAt};
 ghost use Rattle.circuit_server.specs.CircuitServerValue.{OpenCircuitValue, kept_slots};
@@ -333,6 +333,8 @@ impl Server {
 
     /// Takes a datagram for the circuit that it was found to be of, by what was read of it then, or drops it for the reason
     /// why it is of none.
+    // inlined: to hand over what was read would move it
+    #[inline(always)]
     fn receive_found<D: Disk>(
         &mut self,
         found: Result<(Circuit, RelayedMessage<'_>), Discard>,
@@ -345,7 +347,7 @@ impl Server {
         requires regions { HasRegions self.old.topology.circuits (D.device disk.old).count }
         requires ready { D.tells ≡ true → AreReady (D.device disk.old).region self.old }
         ensures topology { self.new.topology ≡ self.old.topology }
-        ensures received { IsReceived D.tells delivery.now result out.new self.old self.new (D.device disk.old) (D.device disk.new) }
+        ensures received { IsReceivedAlone D.tells delivery.now result out.new self.old self.new (D.device disk.old) (D.device disk.new) }
     {
         let (circuit, relayed) = match found {
             Ok(found) => found,
