@@ -8,7 +8,6 @@ ghost use Rattle.lease_disk.specs.FileDisk.{uncalled};
 use config::Config;
 use dispatch::region_count;
 use lease_disk::{Disk, FileDisk, FileFault, format};
-use sockets::MAX_SERVED;
 use std::fs::File;
 use std::rt::Files;
 use thiserror::Error;
@@ -64,38 +63,41 @@ pub fn open_device<R: Files<File = File>>(rt: &R, path: &str) -> Result<FileDisk
 }
 
 /// Makes the file, where there is none, or lengthens it, and formats the region of each circuit: all
-/// leases in these are lost. Formats none where there are more circuits than are served.
+/// leases in these are lost. Formats none where there are more circuits than `most`, which are not served.
 pub fn format_device<R: Files<File = File>>(
     rt: &R,
     path: &str,
     config: &Config,
+    most: usize,
 ) -> Result<FileDisk, DeviceFault>
-    ensures writes { length config.now.circuits ≤ 16 → IfOk result (λ disk. disk.writes ≡ 4 * length config.now.circuits) }
-    ensures none { 16 < length config.now.circuits → IfOk result (λ disk. disk.writes ≡ 0) }
+    ensures writes { length config.now.circuits ≤ most → IfOk result (λ disk. disk.writes ≡ 4 * length config.now.circuits) }
+    ensures none { most < length config.now.circuits → IfOk result (λ disk. disk.writes ≡ 0) }
     ensures regions { IfOk result (λ disk.
         (c : ℕ) (circuit : CircuitConfig) → slice_get config.now.circuits c ≡ Some circuit
         → circuit.region < disk.regions) }
 {
     let mut disk = FileDisk::create(rt, path, region_count(config)).map_err(fault_of)?;
-    if config.circuit_count() <= MAX_SERVED {
+    if config.circuit_count() <= most {
         format_regions(config, &mut disk)?;
     }
     Ok(disk)
 }
 
-/// Opens the file with this path as the device of a configuration: as it is, or formatted where `formats` says so.
+/// Opens the file with this path as the device of a configuration of which so many circuits are served at most: as it is, or
+/// formatted where `formats` says so.
 pub fn device_of<R: Files<File = File>>(
     rt: &R,
     path: &str,
     formats: bool,
     config: &Config,
+    most: usize,
 ) -> Result<FileDisk, DeviceFault>
-    ensures formats { formats ≡ true → length config.now.circuits ≤ 16
+    ensures formats { formats ≡ true → length config.now.circuits ≤ most
         → IfOk result (λ disk. disk.writes ≡ 4 * length config.now.circuits) }
     ensures opens { formats ≡ false → IfOk result (λ disk. disk ≡ uncalled disk.length) }
 {
     if formats {
-        format_device(rt, path, config)
+        format_device(rt, path, config, most)
     } else {
         open_device(rt, path)
     }

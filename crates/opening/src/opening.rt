@@ -8,17 +8,15 @@ ghost use Rattle.dispatch.specs.ServerValue.{AreReady};
 ghost use Rattle.dispatch.specs.declared.server.OpenFault.TheVariants as fault;
 ghost use Rattle.lease_disk.specs.Device.{TouchesNothing};
 
-use arrayvec::ArrayVec;
 use config::Config;
 use dispatch::{OpenFault, Server};
 use lease_disk::{Disk, read_format};
-use sockets::MAX_SERVED;
-use std::alloc::Global;
+use std::alloc::{AllocError, Global};
 use types::Circuit;
 
 /// The byte that says the format of each circuit's region, as it was before the opening; `None` where it could not be
 /// read.
-pub type Formats = ArrayVec<Option<u8>, MAX_SERVED>;
+pub type Formats = Vec<Option<u8>>;
 
 /// The byte that says the format of a region, if there is such a region and it can be read.
 fn format_of<D: Disk>(region: u16, disk: &mut D) -> Option<u8>
@@ -32,30 +30,28 @@ fn format_of<D: Disk>(region: u16, disk: &mut D) -> Option<u8>
     read_format(region, disk).ok()
 }
 
-/// The format of each circuit's region.
-fn formats_of<D: Disk>(config: &Config, disk: &mut D) -> Formats
-    requires { length config.now.circuits ≤ 16 }
-    ensures found { D.tells ≡ true → result.items ≡ formats_of (D.device disk.old) config.now.circuits }
-    ensures all { length result.items ≡ length config.now.circuits }
+/// The format of each circuit's region. The memory for them is taken before the device is first called.
+fn formats_of<D: Disk>(alloc: Global, config: &Config, disk: &mut D) -> Result<Formats, AllocError>
+    ensures found { D.tells ≡ true → IfOk result (λ found. found.items ≡ formats_of (D.device disk.old) config.now.circuits) }
+    ensures all { IfOk result (λ found. length found.items ≡ length config.now.circuits) }
     ensures frame { TouchesNothing D.tells (D.device disk.old) (D.device disk.new) }
     ensures reads { (D.device disk.new).reads ≤ (D.device disk.old).reads + length config.now.circuits }
 {
-    let mut found = ArrayVec::new();
+    let mut found = Vec::with_capacity(alloc, config.circuit_count())?;
     'circuits: for index in 0..config.circuit_count() {
         let circuit = Circuit::at(index);
-        found.push(format_of(config.at(circuit).region, disk));
+        found.push(format_of(config.at(circuit).region, disk))?;
     }
-    found
+    Ok(found)
 }
 
-/// Opens the server of a configuration of at most 16 circuits over a device, which moves its regions of format 1, and
-/// returns the formats that the regions had before.
+/// Opens the server of a configuration over a device, which moves its regions of format 1, and returns the formats that
+/// the regions had before.
 pub fn open_server<D: Disk>(
     alloc: Global,
     config: &Config,
     disk: &mut D,
 ) -> Result<(Server, Formats), OpenFault>
-    requires few { length config.now.circuits ≤ 16 }
     requires synced { D.tells ≡ true → AreSynced (parts_of config.now) (D.device disk.old).region }
     ensures formats { D.tells ≡ true → IfOk result (λ opened. opened.1.items ≡ formats_of (D.device disk.old) config.now.circuits) }
     ensures ready { D.tells ≡ true → IfOk result (λ opened. AreReady (D.device disk.new).region opened.0) }
@@ -66,7 +62,9 @@ pub fn open_server<D: Disk>(
     ensures untouched { OnErr result (TouchesNothing D.tells (D.device disk.old) (D.device disk.new)) }
     ensures calls { IsCalledToOpen (length config.now.circuits) (D.device disk.old) (D.device disk.new) }
 {
-    let formats = formats_of(config, disk);
+    let Ok(formats) = formats_of(alloc, config, disk) else {
+        return Err(OpenFault::Memory);
+    };
     match Server::open(alloc, config, disk) {
         Ok(server) => Ok((server, formats)),
         Err(why) => Err(why),

@@ -1,6 +1,5 @@
-use Rattle.std.proofs.Common.{◌≡◌, ◌∙◌, [], ◌∷◌, ◌++◌, ◌+◌, length, ap, subst, arith}
+use Rattle.std.proofs.Common.{◌≡◌, ◌∙◌, [], ◌∷◌, ◌++◌, ap, subst, arith, rules}
 use Rattle.std.specs.Prelude.{Some, slice_get}
-use Rattle.std.proofs.lemmas.List.{length-append}
 use Rattle.lease_disk.proofs.Frames.{nothing_then}
 use Rattle.opening.proofs.OpeningLemmas.{one_more_format}
 use Rattle.opening.proofs.opening.formats_of.Goals as goal
@@ -14,10 +13,10 @@ circuits-preserved g c =
       index = omega (arith, c.circuits-test.true);
       end = loop.end;
       few = loop.few;
-      all = ap length c.push.ensures.items ∙ (length-append c.circuits.found.items (c.format_of.result ∷ []) ∙ ap (λ n. n + 1) loop.all);
+      all = search rules;
       frame = nothing_then g.D.Disk.tells (device c.args.disk.now) (device c.circuits.disk) (device c.format_of.new.disk) loop.frame c.format_of.ensures.frame;
       reads = omega (arith, loop.reads, c.format_of.ensures.reads);
-      found = λ told. c.push.ensures.items
+      found = λ told. c.in_ok-push.ensures.items
           ∙ (ap (λ format. c.circuits.found.items ++ format ∷ []) (c.format_of.ensures.found told)
           ∙ one_more_format g.D.Disk.tells (device c.args.disk.now) (device c.circuits.disk) c.args.config.now.circuits c.circuits.index c.at.result.now c.circuits.found.items loop.frame told here (loop.found told));
     }

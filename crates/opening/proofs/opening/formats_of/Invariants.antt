@@ -7,7 +7,7 @@ abbrev pub invariant-circuits : goal.invariant-circuits
 invariant-circuits g l = record {
   index : l.index ≤ l.index-end;
   end : l.index-end ≡ length l.config.circuits;
-  few : l.index-end ≤ 16;
+  few : l.index-end ≤ 1024;
   all : length l.found.items ≡ l.index;
   frame : TouchesNothing g.D.Disk.tells (g.D.Disk.device l.fn.disk) (g.D.Disk.device l.disk);
   reads : (g.D.Disk.device l.disk).reads ≤ (g.D.Disk.device l.fn.disk).reads + l.index;
