@@ -334,6 +334,8 @@ impl Access {
         self.server.tick(now);
         self.history.tick(now);
         self.turns.tick();
+        // for the contract: the limit that its type keeps
+        let _received = self.tally.all.received;
         frames + datagrams + answers
     }
 
@@ -394,6 +396,7 @@ impl Access {
     /// Takes a frame from each of the circuits' sockets to its relay.
     fn take_from_circuits(&mut self) -> u32
         ensures most { result ≤ 2 * length self.old.topology.circuits }
+        ensures few { result ≤ 2048 }
         ensures carried { HasCarried (CircuitsSockets self.old.topology) result self.old self.new }
     {
         self.waiter.poll();

@@ -1,4 +1,4 @@
--- What a turn's server has saved when it acknowledges a lease.
+-- What the server has saved when it acknowledges a lease.
 use Rattle.std.proofs.Common.{◌≡◌, ◌∙◌, ℕ, Bool, true, false, List, [], ◌∷◌, map, take, refl, sym, ap, subst}
 use Rattle.std.specs.Prelude.{Option, Some, slice_get, Result, Ok, IfSome}
 use Rattle.std.specs.List.{filter}
@@ -26,7 +26,7 @@ use Rattle.access_promises.specs.Transactions.{IsSaved, lines_of, transaction_be
 use Rattle.access_promises.proofs.BatchOrder.{chosen}
 use Rattle.access_promises.proofs.ExchangeLemmas.{exchange, one_exchange, own_book, own_received}
 use Rattle.access_promises.proofs.LeaseLemmas.{grants_saved, own_at_end, unsent_grants}
-use Rattle.access_promises.proofs.OneTurn.{has_book}
+use Rattle.access_promises.proofs.EachBook.{has_book}
 
 pub book_there : (server : ServerValue) (c : ℕ) (part : CircuitPart) → slice_get server.topology.circuits c ≡ Some part → slice_get (books_in server) c ≡ Some (book_in server c)
 book_there server c part there =

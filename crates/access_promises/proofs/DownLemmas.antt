@@ -1,5 +1,5 @@
 -- What comes down from the relays' sockets in a run.
-use Rattle.std.proofs.Common.{inl, inr, ◌≡◌, ◌∙◌, ℕ, zero, suc, ◌==◌, Bool, true, false, List, [], ◌∷◌, ◌++◌, length, refl, sym, ap, ap₂, subst, eqb-true, arith}
+use Rattle.std.proofs.Common.{inl, inr, ◌≡◌, ◌∙◌, ℕ, ◌==◌, Bool, true, false, List, [], ◌∷◌, ◌++◌, length, refl, sym, ap, ap₂, subst, eqb-true, arith}
 use Rattle.std.specs.Prelude.{◌⊎◌, All, Option, Some, None, option_map, slice_get, Result, Ok, Err, if◌then◌else◌}
 use Rattle.std.specs.List.{cons_option, filter_map}
 use Rattle.std.specs.Result.{result_ok}
@@ -16,12 +16,13 @@ use Rattle.sockets.specs.Sockets as sockets
 use Rattle.udp.specs.History.{Entry, Took, Failed, Empty, Sent, Ticked, Refused, Read}
 use Rattle.udp.specs.declared.history.Role.TheVariants.{Circuit, Server, Relay}
 use Rattle.counts.specs.Tally.{CircuitFate}
-use Rattle.access.specs.Turn.{InOrder, IsSentDown, RelaySocket}
+use Rattle.access.specs.Pass.{EndsBy, IsAnswerTaken, IsEmptied, RelaysEmptied}
+use Rattle.access.specs.Turn.{InOrder, IsIdle, IsSentDown, RelaySocket, RelaysSockets}
 use Rattle.access_promises.specs.Alone.{GoesToItsClients, frame_alone, packet_of}
 use Rattle.access_promises.specs.Own.{Packet, datagrams_in, is_for, own_datagram, packet, sent_down, sent_in}
-use Rattle.access_promises.proofs.EntryKinds.{AreOf, datagram_only, down_only, kind}
-use Rattle.access_promises.proofs.RunLemmas.{AreTurns, all_of}
-use Rattle.access_promises.proofs.TurnEntries.{IsTurn, ups_of}
+use Rattle.access_promises.proofs.EntryKinds.{AreOf, datagram_only, down_only, kind, kinds_more}
+use Rattle.access_promises.proofs.RoundEntries.{down_of}
+use Rattle.access_promises.proofs.Tried.{AddsUp, Gives, by_both, by_each}
 
 port_only : (port : ℕ) (entry : Entry) → (kind entry == 4) ≡ false → GoesToItsClients port entry
 port_only port (Took (Circuit k proto) from bytes) apart = tt
@@ -49,10 +50,10 @@ module _ (topology : Topology) (port : ℕ) where
   no_ports : All (GoesToItsClients port) []
   no_ports k d below = absurd (omega (arith, below))
 
-  down_none : AreDown []
+  pub down_none : AreDown []
   down_none = record { own = λ c part there. refl; ports = no_ports }
 
-  down_more : (xs ys : List Entry) → AreDown xs → AreDown ys → AreDown (xs ++ ys)
+  pub down_more : (xs ys : List Entry) → AreDown xs → AreDown ys → AreDown (xs ++ ys)
   down_more xs ys one two = record {
     own = λ c part there.
         filter_map-append (sent_down c) xs ys
@@ -61,13 +62,13 @@ module _ (topology : Topology) (port : ℕ) where
     ports = All-append (GoesToItsClients port) xs ys one.ports two.ports;
   }
 
-  down_other : (entry : Entry) → (kind entry == 4) ≡ false → AreDown (entry ∷ [])
+  pub down_other : (entry : Entry) → (kind entry == 4) ≡ false → AreDown (entry ∷ [])
   down_other entry other = record {
     own = λ c part there. ap (λ o. cons_option o []) (down_only c entry other) ∙ sym (ap (λ o. filter_map (frame_alone part) (cons_option o [])) (datagram_only topology c entry other));
     ports = All-cons (GoesToItsClients port) entry [] (port_only port entry other) no_ports;
   }
 
-  down_others : (n : ℕ) → (n == 4) ≡ false → (entries : List Entry) → AreOf n entries → AreDown entries
+  pub down_others : (n : ℕ) → (n == 4) ≡ false → (entries : List Entry) → AreOf n entries → AreDown entries
   down_others n other [] of = down_none
   down_others n other (entry ∷ entries) of = down_more (entry ∷ []) entries (down_other entry (ap (λ k. k == 4) of.0 ∙ other)) (down_others n other entries of.1)
 
@@ -112,31 +113,42 @@ module _ (topology : Topology) (port : ℕ) where
           (All-cons (GoesToItsClients port) (Sent (Circuit frame.circuit (sockets.proto_of frame.frame.dest)) (sockets.client_port port frame.circuit (sockets.proto_of frame.frame.dest)) (sockets.framed frame.frame.dest frame.frame.bytes) sent.0) [] refl no_ports);
     })
 
-  down_tried : (r : ℕ) (entries : List Entry) (outcomes : List CircuitFate) → RelaySocket topology port r entries outcomes → AreDown entries
-  down_tried r entries outcomes (inl idle) = by idle.0 where
-    by : (entries ≡ Empty (Relay r) ∷ []) ⊎ (entries ≡ Failed (Relay r) ∷ []) → AreDown entries
-    by (inl is) = subst AreDown (sym is) (record { own = λ c part there. refl; ports = All-cons (GoesToItsClients port) (Empty (Relay r)) [] tt no_ports })
-    by (inr is) = subst AreDown (sym is) (record { own = λ c part there. refl; ports = All-cons (GoesToItsClients port) (Failed (Relay r)) [] tt no_ports })
-  down_tried r entries outcomes (inr taken) =
-      subst AreDown (sym taken.entries_are) (down_datagram r taken.from taken.bytes (relayed_down_in topology r taken.from taken.bytes) refl taken.rest taken.outcome taken.made)
+  -- the entries of the relays' sockets
+  abbrev pub AreAnswers : List Entry → Type 0
+  AreAnswers entries = AreOf 4 entries × AreDown entries
 
-  down_ordered : (m : ℕ) (entries : List Entry) (outcomes : List CircuitFate) → InOrder (RelaySocket topology port) m entries outcomes → AreDown entries
-  down_ordered zero entries outcomes none = subst AreDown (sym none.0) down_none
-  down_ordered (suc m) entries outcomes both =
-      subst AreDown (sym both.entries_are) (down_more both.before both.after (down_ordered m both.before both.done both.one) (down_tried m both.after both.more both.other))
+  answers_add : AddsUp AreAnswers
+  answers_add = record { none = (tt, down_none); more = λ xs ys one two. (kinds_more 4 xs ys one.0 two.0, down_more xs ys one.1 two.1) }
 
-  -- ---- turns
+  down_idle : (r : ℕ) → Gives (IsIdle (Relay r)) AreAnswers
+  down_idle r entries outcomes idle = by idle.0 where
+    by : (entries ≡ Empty (Relay r) ∷ []) ⊎ (entries ≡ Failed (Relay r) ∷ []) → AreAnswers entries
+    by (inl is) = subst AreAnswers (sym is) ((refl, tt), record { own = λ c part there. refl; ports = All-cons (GoesToItsClients port) (Empty (Relay r)) [] tt no_ports })
+    by (inr is) = subst AreAnswers (sym is) ((refl, tt), record { own = λ c part there. refl; ports = All-cons (GoesToItsClients port) (Failed (Relay r)) [] tt no_ports })
 
-  down_turn : (now : ℕ) (entries : List Entry) → IsTurn topology port now entries → AreDown entries
-  down_turn now entries turn =
-      subst AreDown (sym turn.are)
-      (down_more (Read turn.time ∷ (turn.up ++ (turn.poll ++ (turn.sends ++ turn.down)))) (Ticked now ∷ [])
-      (down_more (Read turn.time ∷ []) (turn.up ++ (turn.poll ++ (turn.sends ++ turn.down))) (down_other (Read turn.time) refl)
-      (down_more turn.up (turn.poll ++ (turn.sends ++ turn.down)) (down_others 1 refl turn.up (ups_of topology turn.up turn.ups turn.tried_up))
-      (down_more turn.poll (turn.sends ++ turn.down) (down_others 2 refl turn.poll turn.polled)
-      (down_more turn.sends turn.down (down_others 3 refl turn.sends turn.sent) (down_ordered (length topology.relays) turn.down turn.downs turn.tried_down)))))
-      (down_other (Ticked now) refl))
+  down_taken : (r : ℕ) → Gives (IsAnswerTaken topology port r) AreAnswers
+  down_taken r entries outcomes taken =
+      subst AreAnswers (sym taken.entries_are) (
+        (refl, down_of port (relayed_down_in topology r taken.from taken.bytes) taken.rest taken.outcome taken.made),
+        down_datagram r taken.from taken.bytes (relayed_down_in topology r taken.from taken.bytes) refl taken.rest taken.outcome taken.made,
+      )
 
-  pub down_turns : (turns : List (List Entry)) → AreTurns topology port turns → AreDown (all_of turns)
-  down_turns [] are = down_none
-  down_turns (entries ∷ turns) are = down_more entries (all_of turns) (down_turn are.0.0 entries are.0.1) (down_turns turns are.1)
+  down_tried : (r : ℕ) → Gives (RelaySocket topology port r) AreAnswers
+  down_tried r entries outcomes (inl idle) = down_idle r entries outcomes idle
+  down_tried r entries outcomes (inr taken) = down_taken r entries outcomes taken
+
+  down_ends : (r : ℕ) (full : Bool) → Gives (EndsBy (Relay r) full) AreAnswers
+  down_ends r true entries outcomes none = subst AreAnswers (sym none.0) (tt, down_none)
+  down_ends r false entries outcomes idle = down_idle r entries outcomes idle
+
+  down_emptied : (r : ℕ) → Gives (IsEmptied topology port r) AreAnswers
+  down_emptied r entries outcomes emptied =
+      by_both AreAnswers answers_add (InOrder (λ i. IsAnswerTaken topology port r) emptied.taken) (EndsBy (Relay r) (emptied.taken == 32))
+      (by_each AreAnswers answers_add (λ i. IsAnswerTaken topology port r) (λ i. down_taken r) emptied.taken) (down_ends r (emptied.taken == 32)) entries outcomes emptied.tried
+
+  -- of a turn, and of a slice of a pass
+  pub turn_down : Gives (RelaysSockets topology port) AreAnswers
+  turn_down = by_each AreAnswers answers_add (RelaySocket topology port) down_tried (length topology.relays)
+
+  pub slice_down : Gives (RelaysEmptied topology port) AreAnswers
+  slice_down = by_each AreAnswers answers_add (IsEmptied topology port) down_emptied (length topology.relays)

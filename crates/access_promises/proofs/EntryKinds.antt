@@ -1,4 +1,4 @@
--- Which part of a turn an entry is of.
+-- Which part of a round an entry is of.
 use Rattle.std.proofs.Common.{◌≡◌, ◌∙◌, ℕ, ◌==◌, false, List, [], ◌∷◌, ◌++◌, refl, ap}
 use Rattle.std.specs.Prelude.{⊤, Option, None}
 use Rattle.std.specs.List.{cons_option, filter_map}
@@ -8,8 +8,9 @@ use Rattle.udp.specs.declared.history.Role.TheVariants.{Circuit, Server, Relay}
 use Rattle.access.specs.Polling.{delivery_in}
 use Rattle.access_promises.specs.Own.{own_datagram, own_frame, sent_down, sent_reply, sent_up}
 use Rattle.access_promises.specs.Turns.{turns_after}
+use Rattle.access_promises.proofs.Tried.{AddsUp}
 
--- 0 the clock is read, 1 the circuits' sockets, 2 the server's are tried, 3 its replies, 4 the relays' sockets, 5 the turn ends
+-- 0 the clock is read, 1 the circuits' sockets, 2 the server's are tried, 3 its replies, 4 the relays' sockets, 5 the round ends
 abbrev pub kind : Entry → ℕ
 kind (Took (Circuit k proto) from bytes) = 1
 kind (Took (Server proto) from bytes) = 2
@@ -34,6 +35,9 @@ AreOf n (entry ∷ entries) = (kind entry ≡ n) × AreOf n entries
 pub kinds_more : (n : ℕ) (xs ys : List Entry) → AreOf n xs → AreOf n ys → AreOf n (xs ++ ys)
 kinds_more n [] ys one two = two
 kinds_more n (x ∷ xs) ys one two = (one.0, kinds_more n xs ys one.1 two)
+
+pub kinds_add : (n : ℕ) → AddsUp (AreOf n)
+kinds_add n = record { none = tt; more = kinds_more n }
 
 -- what comes from entries of one kind alone does not come from those of another
 pub skipped : {X : Type 0} (f : Entry → Option X) (m n : ℕ) → ((entry : Entry) → (kind entry == m) ≡ false → f entry ≡ None) → (n == m) ≡ false → (xs : List Entry) → AreOf n xs → filter_map f xs ≡ []
@@ -142,7 +146,7 @@ down_only c (Ticked now) apart = refl
 down_only c (Refused socket at) apart = refl
 down_only c (Read time) apart = refl
 
--- a turn goes on
+-- a round goes on
 pub goes_on : (before : List Entry) (entry : Entry) (entries : List Entry) → (kind entry == 5) ≡ false → turns_after before (entry ∷ entries) ≡ turns_after (before ++ entry ∷ []) entries
 goes_on before (Took socket from bytes) entries apart = refl
 goes_on before (Failed socket) entries apart = refl

@@ -15,8 +15,8 @@ use Rattle.udp.specs.History.{Entry}
 use Rattle.access.specs.Batch.{Serving}
 use Rattle.access_promises.specs.Exchanges.{AreAlone, Exchange, DropsStray, reply_of}
 use Rattle.access_promises.specs.Own.{Receive, Step, is_own, replies_in, sent_reply}
-use Rattle.access_promises.proofs.EntryKinds.{AreOf, kinds_more}
 use Rattle.access_promises.proofs.StepLemmas.{alone_more, alone_none}
+use Rattle.access_promises.proofs.Tried.{AddsUp}
 
 -- the steps of circuit c's server
 abbrev pub receives : Topology → ℕ → List DeliveryValue → List Step
@@ -38,11 +38,12 @@ ServesEachOwn topology ds xs old new =
 abbrev pub datagrams : List Exchange → List DeliveryValue
 datagrams = map (λ (x : Exchange). x.datagram)
 
-pub record Serves (topology : Topology) (ds : List DeliveryValue) (old new : Serving) : Type 0 where
+-- some datagrams, by entries of which something is so
+pub record Serves (Are : List Entry → Type 0) (topology : Topology) (ds : List DeliveryValue) (old new : Serving) : Type 0 where
   pub its : new.server.topology ≡ topology
   pub entries : List Entry
   pub history : new.history ≡ old.history ++ entries
-  pub kinds : AreOf 3 entries
+  pub are : Are entries
   pub exchanges : List Exchange
   pub once : IsPermutation (datagrams exchanges) ds
   pub replies : replies_in entries ≡ filter_map reply_of exchanges
@@ -52,12 +53,12 @@ pub record Serves (topology : Topology) (ds : List DeliveryValue) (old new : Ser
 pub no_strays : (topology : Topology) → All (DropsStray topology) []
 no_strays topology k d below = absurd (omega (arith, below))
 
-pub serves_none : (topology : Topology) (s t : Serving) → s.server.topology ≡ topology → t ≡ s → Serves topology [] s t
-serves_none topology s t its same = subst (λ u. Serves topology [] s u) (sym same) (record {
+pub serves_none : (Are : List Entry → Type 0) → AddsUp Are → (topology : Topology) (s t : Serving) → s.server.topology ≡ topology → t ≡ s → Serves Are topology [] s t
+serves_none Are adds topology s t its same = subst (λ u. Serves Are topology [] s u) (sym same) (record {
   its = its;
   entries = [];
   history = sym (append-nil s.history);
-  kinds = tt;
+  are = adds.none;
   exchanges = [];
   once = IsPermutation-refl [];
   replies = refl;
@@ -70,12 +71,12 @@ pub own_then : (topology : Topology) (c : ℕ) (part : CircuitPart) (ss ts : Lis
 own_then topology c part ss ts xs ys old middle new before one two =
     record { after = two.after; alone = alone_more topology c part ss ts xs ys before one.after two.after one.alone two.alone; at = two.at }
 
-pub serves_then : (topology : Topology) (ds es : List DeliveryValue) (s t u : Serving) → Serves topology ds s t → Serves topology es t u → Serves topology (ds ++ es) s u
-serves_then topology ds es s t u one two = record {
+unfoldable pub serves_then : (Are : List Entry → Type 0) → AddsUp Are → (topology : Topology) (ds es : List DeliveryValue) (s t u : Serving) → Serves Are topology ds s t → Serves Are topology es t u → Serves Are topology (ds ++ es) s u
+serves_then Are adds topology ds es s t u one two = record {
   its = two.its;
   entries = one.entries ++ two.entries;
   history = two.history ∙ (ap (λ h. h ++ two.entries) one.history ∙ append_assoc s.history one.entries two.entries);
-  kinds = kinds_more 3 one.entries two.entries one.kinds two.kinds;
+  are = adds.more one.entries two.entries one.are two.are;
   exchanges = one.exchanges ++ two.exchanges;
   once = subst (λ l. IsPermutation l (ds ++ es)) (sym (map-append (λ (x : Exchange). x.datagram) one.exchanges two.exchanges))
       (IsPermutation-append (datagrams one.exchanges) ds (datagrams two.exchanges) es one.once two.once);

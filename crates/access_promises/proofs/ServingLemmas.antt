@@ -1,4 +1,4 @@
--- What the server makes of the datagrams of a turn.
+-- What the server makes of the datagrams that it takes together.
 use Rattle.std.proofs.Common.{◌≡◌, ◌∙◌, ℕ, zero, suc, Bool, true, false, cond, List, [], ◌∷◌, ◌++◌, length, map, take, refl, sym, ap, ap₂, subst, append-nil, arith}
 use Rattle.std.specs.Prelude.{Option, Some, slice_get, Ok, Err, All}
 use Rattle.std.specs.List.{filter, filter_map}
@@ -25,7 +25,7 @@ use Rattle.access.specs.Turn.{GoesOn}
 use Rattle.access_promises.specs.Exchanges.{Exchange, DropsStray, reply_of}
 use Rattle.access_promises.specs.Own.{Receive, is_own, replies_in, sent_reply}
 use Rattle.access_promises.proofs.BatchOrder.{Answer, Pair, answers_after, answers_are, batch_firsts, chosen, datagrams_of, firsts, made, repeats}
-use Rattle.access_promises.proofs.EntryKinds.{AreOf, kinds_more}
+use Rattle.access_promises.proofs.EntryKinds.{AreOf, kinds_add, kinds_more}
 use Rattle.access_promises.proofs.ExchangeLemmas.{exchange, one_exchange, stray_one}
 use Rattle.access_promises.proofs.Serves.{HasServedOwn, Serves, datagrams, no_strays, serves_none, serves_then}
 
@@ -111,12 +111,12 @@ module _ (topology : Topology) (fails : ℕ → Bool) (old : List (Option Book))
 -- ---- those that are received again
 
 -- one, alone
-received_again : (d : DeliveryValue) (s t : Serving) → IsAnswered d s t → Serves s.server.topology (d ∷ []) s t
+received_again : (d : DeliveryValue) (s t : Serving) → IsAnswered d s t → Serves (AreOf 3) s.server.topology (d ∷ []) s t
 received_again d s t answered = record {
   its = answered.stays.topology;
   entries = answered.rest;
   history = answered.history;
-  kinds = sent.kinds;
+  are = sent.kinds;
   exchanges = exchange s.server.topology (failed_in s t) d (made_of d s t).answer ∷ [];
   once = IsPermutation-refl (d ∷ []);
   replies = sent.replies;
@@ -128,18 +128,18 @@ received_again d s t answered = record {
   sent : AreSent (exchange s.server.topology (failed_in s t) d (made_of d s t).answer ∷ []) answered.rest
   sent = answer_sent (exchange s.server.topology (failed_in s t) d (made_of d s t).answer) answered.rest answered.became (made_of d s t).answer refl answered.goes_on
 
-again_one : (topology : Topology) (d : DeliveryValue) (repeated : Bool) (s t : Serving) → s.server.topology ≡ topology → IsReceivedAgain repeated d s t → Serves topology (cond repeated (d ∷ []) []) s t
-again_one topology d true s t its received = subst (λ top. Serves top (d ∷ []) s t) its (received_again d s t received)
-again_one topology d false s t its same = serves_none topology s t its same
+again_one : (topology : Topology) (d : DeliveryValue) (repeated : Bool) (s t : Serving) → s.server.topology ≡ topology → IsReceivedAgain repeated d s t → Serves (AreOf 3) topology (cond repeated (d ∷ []) []) s t
+again_one topology d true s t its received = subst (λ top. Serves (AreOf 3) top (d ∷ []) s t) its (received_again d s t received)
+again_one topology d false s t its same = serves_none (AreOf 3) (kinds_add 3) topology s t its same
 
 again_all : (topology : Topology) (taken : List DeliveryValue) (answers : List Answer) (n : ℕ) (s t : Serving) → s.server.topology ≡ topology → AreReceivedAgain taken answers n s t
-    → Serves topology (repeats (take n taken) (take n answers)) s t
-again_all topology taken answers zero s t its same = serves_none topology s t its same
+    → Serves (AreOf 3) topology (repeats (take n taken) (take n answers)) s t
+again_all topology taken answers zero s t its same = serves_none (AreOf 3) (kinds_add 3) topology s t its same
 again_all topology taken answers (suc n) s t its again =
     let one = again.2 in
     let before = again_all topology taken answers n s again.0 its again.1 in
-    subst (λ ds. Serves topology ds s t) (sym (repeats_more n taken answers one.its_datagram one.its_answer one.taken_at one.answered_at))
-    (serves_then topology (repeats (take n taken) (take n answers)) (repeat_of one.its_datagram one.its_answer) s again.0 t before
+    subst (λ ds. Serves (AreOf 3) topology ds s t) (sym (repeats_more n taken answers one.its_datagram one.its_answer one.taken_at one.answered_at))
+    (serves_then (AreOf 3) (kinds_add 3) topology (repeats (take n taken) (take n answers)) (repeat_of one.its_datagram one.its_answer) s again.0 t before
     (again_one topology one.its_datagram (is_repeated one.its_answer) again.0 t before.its one.received))
 
 -- ---- those that are received together
@@ -166,12 +166,12 @@ made_datagrams topology fails old (p ∷ ps) = ap (λ ds. p.0 ∷ ds) (made_data
 -- the first datagrams of the circuits, and the replies to them
 together : (taken : List DeliveryValue) (circuits : List (Option ℕ)) (answers : List Answer) (s saved : Serving) (tally : Tally) (history : List Entry) → IsReceived taken answers s saved
     → HasTried (AreReplied taken circuits answers (length taken)) saved.tally tally saved.history history
-    → Serves s.server.topology (datagrams_of (firsts taken answers)) s (serving saved.server saved.disk tally history)
+    → Serves (AreOf 3) s.server.topology (datagrams_of (firsts taken answers)) s (serving saved.server saved.disk tally history)
 together taken circuits answers s saved tally history received replied = record {
   its = received.stays.topology;
   entries = replied.entries;
   history = replied.history ∙ ap (λ (u : Serving). u.history ++ replied.entries) received.rest;
-  kinds = sent.kinds;
+  are = sent.kinds;
   exchanges = made s.server.topology (failed_in s saved) (books_in s.server) (firsts taken answers);
   once = subst (λ l. IsPermutation l (datagrams_of (firsts taken answers))) (sym (made_datagrams s.server.topology (failed_in s saved) (books_in s.server) (firsts taken answers))) (IsPermutation-refl (datagrams_of (firsts taken answers)));
   replies = sent.replies;
@@ -189,7 +189,7 @@ together taken circuits answers s saved tally history received replied = record 
   sent = subst (λ ps. AreSent (made s.server.topology (failed_in s saved) (books_in s.server) ps) replied.entries) all_of_them
       (replied_all s.server.topology (failed_in s saved) (books_in s.server) taken circuits answers (length taken) replied.entries replied.outcomes replied.tried)
 
--- ---- all of a turn
+-- ---- all of them
 
 split_once : (r : Bool) (d : DeliveryValue) (a : Answer) (fs : List Pair) (rs ds : List DeliveryValue) → IsPermutation (datagrams_of fs ++ rs) ds → IsPermutation (datagrams_of (cond r fs ((d, a) ∷ fs)) ++ cond r (d ∷ rs) rs) (d ∷ ds)
 split_once true d a fs rs ds once =
@@ -202,14 +202,14 @@ split [] answers size = IsPermutation-refl []
 split (d ∷ ds) [] size = absurd (omega (arith, size))
 split (d ∷ ds) (a ∷ answers) size = split_once (is_repeated a) d a (firsts ds answers) (repeats ds answers) ds (split ds answers (omega (arith, size)))
 
-reordered : (topology : Topology) (ds es : List DeliveryValue) (s t : Serving) → Serves topology ds s t → IsPermutation ds es
+reordered : (topology : Topology) (ds es : List DeliveryValue) (s t : Serving) → Serves (AreOf 3) topology ds s t → IsPermutation ds es
     → ((c : ℕ) (part : CircuitPart) (before : Option Book) → slice_get topology.circuits c ≡ Some part → slice_get (books_in s.server) c ≡ Some before → filter (is_own topology c) ds ≡ filter (is_own topology c) es)
-    → Serves topology es s t
+    → Serves (AreOf 3) topology es s t
 reordered topology ds es s t serves moved same = record {
   its = serves.its;
   entries = serves.entries;
   history = serves.history;
-  kinds = serves.kinds;
+  are = serves.are;
   exchanges = serves.exchanges;
   once = IsPermutation-trans (datagrams serves.exchanges) ds es serves.once moved;
   replies = serves.replies;
@@ -221,12 +221,12 @@ reordered topology ds es s t serves moved same = record {
 in_order : (taken : List DeliveryValue) (circuits : List (Option ℕ)) (answers : List Answer) (s saved t : Serving) (tally : Tally) (history : List Entry) → IsReceived taken answers s saved
     → HasTried (AreReplied taken circuits answers (length taken)) saved.tally tally saved.history history
     → AreReceivedAgain taken answers (length taken) (serving saved.server saved.disk tally history) t
-    → Serves s.server.topology taken s t
+    → Serves (AreOf 3) s.server.topology taken s t
 in_order taken circuits answers s saved t tally history received replied again =
     reordered s.server.topology (datagrams_of (firsts taken answers) ++ repeats taken answers) taken s t
-    (serves_then s.server.topology (datagrams_of (firsts taken answers)) (repeats taken answers) s (serving saved.server saved.disk tally history) t
+    (serves_then (AreOf 3) (kinds_add 3) s.server.topology (datagrams_of (firsts taken answers)) (repeats taken answers) s (serving saved.server saved.disk tally history) t
     (together taken circuits answers s saved tally history received replied)
-    (subst (λ ds. Serves s.server.topology ds (serving saved.server saved.disk tally history) t)
+    (subst (λ ds. Serves (AreOf 3) s.server.topology ds (serving saved.server saved.disk tally history) t)
     (ap₂ repeats (take_whole taken) (ap (λ n. take n answers) (sym received.batch.count) ∙ take_whole answers))
     (again_all s.server.topology taken answers (length taken) (serving saved.server saved.disk tally history) t received.stays.topology again)))
     (split taken answers received.batch.count)
@@ -237,10 +237,10 @@ in_order taken circuits answers s saved t tally history received replied again =
 pub serves_by : (taken : List DeliveryValue) (circuits : List (Option ℕ)) (answers : List Answer) (s saved t : Serving) (tally : Tally) (history : List Entry) → AreReceived taken answers s saved
     → HasTried (AreReplied taken circuits answers (length taken)) saved.tally tally saved.history history
     → AreReceivedAgain taken answers (length taken) (serving saved.server saved.disk tally history) t
-    → Serves s.server.topology taken s t
+    → Serves (AreOf 3) s.server.topology taken s t
 serves_by [] circuits answers s saved t tally history same replied again =
     let whole : t ≡ serving saved.server saved.disk tally history = again in
     let counted : tally ≡ saved.tally = replied.tally ∙ ap (λ os. tallied_all os saved.tally) replied.tried.1 in
     let grown : history ≡ saved.history = replied.history ∙ (ap (λ es. saved.history ++ es) replied.tried.0 ∙ append-nil saved.history) in
-    serves_none s.server.topology s t refl (whole ∙ (ap₂ (λ (u : Tally) (h : List Entry). serving saved.server saved.disk u h) counted grown ∙ same))
+    serves_none (AreOf 3) (kinds_add 3) s.server.topology s t refl (whole ∙ (ap₂ (λ (u : Tally) (h : List Entry). serving saved.server saved.disk u h) counted grown ∙ same))
 serves_by (d ∷ taken) circuits answers s saved t tally history received replied again = in_order (d ∷ taken) circuits answers s saved t tally history received replied again

@@ -1,5 +1,5 @@
 -- What goes up from the circuits' sockets in a run.
-use Rattle.std.proofs.Common.{inl, inr, ◌≡◌, ◌∙◌, ℕ, zero, suc, ◌==◌, Bool, true, false, List, [], ◌∷◌, ◌++◌, length, map, refl, sym, ap, ap₂, subst, eqb-true}
+use Rattle.std.proofs.Common.{inl, inr, ◌≡◌, ◌∙◌, ℕ, ◌+◌, ◌==◌, Bool, true, false, List, [], ◌∷◌, ◌++◌, length, map, refl, sym, ap, ap₂, subst, eqb-true}
 use Rattle.std.specs.Prelude.{◌⊎◌, Option, Some, None, option_map, slice_get, Result, Ok, Err, if◌then◌else◌}
 use Rattle.std.specs.List.{cons_option, filter_map}
 use Rattle.std.specs.Option.{option_and_then}
@@ -15,15 +15,15 @@ use Rattle.config.specs.Topology.{IsTopology, Topology, listen}
 use Rattle.relay.specs.Relays.{relayed_up}
 use Rattle.udp.specs.History.{Entry, Took, Failed, Empty, Sent, Ticked, Refused, Read}
 use Rattle.udp.specs.declared.history.Role.TheVariants.{Circuit, Server, Relay}
-use Rattle.counts.specs.Tally.{CircuitFate}
 use Rattle.counts.specs.declared.counts.Fate.{Fate}
 use Rattle.counts.specs.declared.counts.Fate.TheVariants as fate
-use Rattle.access.specs.Turn.{Both, CircuitSocket, CircuitsSockets, GoesOn, InOrder, Tries}
+use Rattle.access.specs.Pass.{SocketsFrom}
+use Rattle.access.specs.Turn.{Both, CircuitSocket, CircuitsSockets, GoesOn}
 use Rattle.access_promises.specs.Alone.{goes_up, relayed_alone}
 use Rattle.access_promises.specs.Own.{Packet, Relayed, Upward, first_sent_up, frames_in, own_frame, packet, relayed_in, sent_up}
-use Rattle.access_promises.proofs.EntryKinds.{AreOf, frame_only, kind, up_only}
-use Rattle.access_promises.proofs.RunLemmas.{AreTurns, all_of}
-use Rattle.access_promises.proofs.TurnEntries.{IsTurn, downs_of}
+use Rattle.access_promises.proofs.EntryKinds.{AreOf, frame_only, kind, kinds_more, up_only}
+use Rattle.access_promises.proofs.RoundEntries.{sent_of}
+use Rattle.access_promises.proofs.Tried.{AddsUp, Gives, by_both, by_each}
 
 goes_only : (topology : Topology) (entry : Entry) → (kind entry == 1) ≡ false → goes_up topology entry ≡ None
 goes_only topology (Took (Circuit k proto) from bytes) apart = absurd cc
@@ -66,10 +66,10 @@ module _ (topology : Topology) where
     pub own : (c : ℕ) (part : CircuitPart) → slice_get topology.circuits c ≡ Some part → relayed_in topology c entries ≡ map (relayed_alone part) (frames_in c entries)
     pub all : filter_map (sent_up topology) entries ≡ filter_map (goes_up topology) entries
 
-  up_none : AreUp []
+  pub up_none : AreUp []
   up_none = record { first = refl; own = λ c part there. refl; all = refl }
 
-  up_more : (xs ys : List Entry) → AreUp xs → AreUp ys → AreUp (xs ++ ys)
+  pub up_more : (xs ys : List Entry) → AreUp xs → AreUp ys → AreUp (xs ++ ys)
   up_more xs ys one two = record {
     first = first_same xs ys two.first ∙ one.first;
     own = λ c part there.
@@ -79,7 +79,7 @@ module _ (topology : Topology) where
     all = filter_map-append (sent_up topology) xs ys ∙ (ap₂ (λ (a b : List Upward). a ++ b) one.all two.all ∙ sym (filter_map-append (goes_up topology) xs ys));
   }
 
-  up_other : (entry : Entry) → (kind entry == 1) ≡ false → AreUp (entry ∷ [])
+  pub up_other : (entry : Entry) → (kind entry == 1) ≡ false → AreUp (entry ∷ [])
   up_other entry other = record {
     first = up_only topology entry other;
     own = λ c part there.
@@ -88,7 +88,7 @@ module _ (topology : Topology) where
     all = ap (λ o. cons_option o []) (up_only topology entry other) ∙ sym (ap (λ o. cons_option o []) (goes_only topology entry other));
   }
 
-  up_others : (n : ℕ) → (n == 1) ≡ false → (entries : List Entry) → AreOf n entries → AreUp entries
+  pub up_others : (n : ℕ) → (n == 1) ≡ false → (entries : List Entry) → AreOf n entries → AreUp entries
   up_others n other [] of = up_none
   up_others n other (entry ∷ entries) of = up_more (entry ∷ []) entries (up_other entry (ap (λ k. k == 1) of.0 ∙ other)) (up_others n other entries of.1)
 
@@ -131,39 +131,33 @@ module _ (topology : Topology) where
           all = is.sent ∙ (ap (λ o. cons_option o []) (sym alone_so ∙ sym (ap (option_and_then (λ (part : CircuitPart). (relayed_alone part (packet proto frame)).sent)) there)) ∙ sym is.goes);
         }
 
-  up_tried : IsTopology topology → (k : ℕ) (proto : Proto) (entries : List Entry) (outcomes : List CircuitFate) → CircuitSocket topology k proto entries outcomes → AreUp entries
+  -- the entries of the circuits' sockets
+  abbrev pub AreFrames : List Entry → Type 0
+  AreFrames entries = AreOf 1 entries × AreUp entries
+
+  frames_add : AddsUp AreFrames
+  frames_add = record { none = (tt, up_none); more = λ xs ys one two. (kinds_more 1 xs ys one.0 two.0, up_more xs ys one.1 two.1) }
+
+  up_tried : IsTopology topology → (k : ℕ) (proto : Proto) → Gives (CircuitSocket topology k proto) AreFrames
   up_tried sound k proto entries outcomes (inl idle) = by idle.0 where
-    by : (entries ≡ Empty (Circuit k proto) ∷ []) ⊎ (entries ≡ Failed (Circuit k proto) ∷ []) → AreUp entries
-    by (inl is) = subst AreUp (sym is) (record { first = refl; own = λ c part there. refl; all = refl })
-    by (inr is) = subst AreUp (sym is) (record { first = refl; own = λ c part there. refl; all = refl })
+    by : (entries ≡ Empty (Circuit k proto) ∷ []) ⊎ (entries ≡ Failed (Circuit k proto) ∷ []) → AreFrames entries
+    by (inl is) = subst AreFrames (sym is) ((refl, tt), record { first = refl; own = λ c part there. refl; all = refl })
+    by (inr is) = subst AreFrames (sym is) ((refl, tt), record { first = refl; own = λ c part there. refl; all = refl })
   up_tried sound k proto entries outcomes (inr taken) =
       let sent = taken.made in
-      subst AreUp (sym taken.entries_are) (up_frame sound k proto taken.from taken.bytes sent.part sent.relay sent.its_part sent.its_relay taken.rest taken.outcome.became sent.goes_on)
+      subst AreFrames (sym taken.entries_are) (
+        (
+          refl,
+          sent_of 1 (Relay sent.relay) (listen topology proto) fate.Relayed (relayed_up sent.part proto taken.bytes) taken.rest taken.outcome.became (λ bytes accepted. refl) sent.goes_on,
+        ),
+        up_frame sound k proto taken.from taken.bytes sent.part sent.relay sent.its_part sent.its_relay taken.rest taken.outcome.became sent.goes_on,
+      )
 
-  up_ordered : (Try : ℕ → Tries) → ((k : ℕ) (entries : List Entry) (outcomes : List CircuitFate) → Try k entries outcomes → AreUp entries)
-      → (m : ℕ) (entries : List Entry) (outcomes : List CircuitFate) → InOrder Try m entries outcomes → AreUp entries
-  up_ordered Try one zero entries outcomes none = subst AreUp (sym none.0) up_none
-  up_ordered Try one (suc m) entries outcomes both =
-      subst AreUp (sym both.entries_are) (up_more both.before both.after (up_ordered Try one m both.before both.done both.one) (one m both.after both.more both.other))
-
-  up_all : IsTopology topology → (entries : List Entry) (outcomes : List CircuitFate) → CircuitsSockets topology entries outcomes → AreUp entries
-  up_all sound = up_ordered (λ c. Both (CircuitSocket topology c V4) (CircuitSocket topology c V6))
-      (λ c entries outcomes both.
-      subst AreUp (sym both.entries_are) (up_more both.before both.after (up_tried sound c V4 both.before both.done both.one) (up_tried sound c V6 both.after both.more both.other)))
+  -- of a turn, and of a slice of a pass
+  pub turn_up : IsTopology topology → Gives (CircuitsSockets topology) AreFrames
+  turn_up sound = by_each AreFrames frames_add (λ c. Both (CircuitSocket topology c V4) (CircuitSocket topology c V6))
+      (λ c. by_both AreFrames frames_add (CircuitSocket topology c V4) (CircuitSocket topology c V6) (up_tried sound c V4) (up_tried sound c V6))
       (length topology.circuits)
 
-  -- ---- turns
-
-  up_turn : IsTopology topology → (port now : ℕ) (entries : List Entry) → IsTurn topology port now entries → AreUp entries
-  up_turn sound port now entries turn =
-      subst AreUp (sym turn.are)
-      (up_more (Read turn.time ∷ (turn.up ++ (turn.poll ++ (turn.sends ++ turn.down)))) (Ticked now ∷ [])
-      (up_more (Read turn.time ∷ []) (turn.up ++ (turn.poll ++ (turn.sends ++ turn.down))) (up_other (Read turn.time) refl)
-      (up_more turn.up (turn.poll ++ (turn.sends ++ turn.down)) (up_all sound turn.up turn.ups turn.tried_up)
-      (up_more turn.poll (turn.sends ++ turn.down) (up_others 2 refl turn.poll turn.polled)
-      (up_more turn.sends turn.down (up_others 3 refl turn.sends turn.sent) (up_others 4 refl turn.down (downs_of topology port turn.down turn.downs turn.tried_down))))))
-      (up_other (Ticked now) refl))
-
-  pub up_turns : IsTopology topology → (port : ℕ) (turns : List (List Entry)) → AreTurns topology port turns → AreUp (all_of turns)
-  up_turns sound port [] are = up_none
-  up_turns sound port (entries ∷ turns) are = up_more entries (all_of turns) (up_turn sound port are.0.0 entries are.0.1) (up_turns sound port turns are.1)
+  pub slice_up : (proto : Proto) (from circuits : ℕ) → IsTopology topology → Gives (SocketsFrom topology proto from circuits) AreFrames
+  slice_up proto from circuits sound = by_each AreFrames frames_add (λ i. CircuitSocket topology (from + i) proto) (λ i. up_tried sound (from + i) proto) circuits

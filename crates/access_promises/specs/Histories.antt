@@ -9,7 +9,7 @@ use Rattle.access_promises.specs.Own.{Packet, Relayed, Reply, Step, datagrams_in
 pub record Taken : Type 0 where
   -- the frames at its sockets
   pub frames : List Packet
-  -- the datagrams at the server, and the moments of the turns
+  -- the datagrams at the server, and the moments of the turns and passes
   pub steps : List Step
   -- the datagrams at the relays
   pub datagrams : List Packet

@@ -70,11 +70,11 @@ is_own topology c d = is_circuit c (addressee topology d)
 abbrev pub steps_of : Topology → ℕ → Turn → List Step
 steps_of topology c turn = map Receive (filter (is_own topology c) (deliveries_in turn.now turn.entries)) ++ Tick turn.now ∷ []
 
--- The datagrams of circuit c that were taken at the server, and the moments with which the turns ended.
+-- The datagrams of circuit c that were taken at the server, and the moments with which the turns and passes ended.
 abbrev pub steps_in : Topology → ℕ → List Entry → List Step
 steps_in topology c entries = flat_map (steps_of topology c) (turns_in entries)
 
--- all datagrams that were taken at the server, each at the moment of its turn
+-- all datagrams that were taken at the server, each at the moment of its turn or pass
 abbrev pub taken_at_server : List Entry → List DeliveryValue
 taken_at_server entries = flat_map (λ (turn : Turn). deliveries_in turn.now turn.entries) (turns_in entries)
 

@@ -35,7 +35,7 @@ pub record Transaction : Type 0 where
 abbrev pub transaction : CircuitPart → Exchange → Option Book → Transaction
 transaction part x book = record { exchange = x; old = book; new = (answered part x.datagram x.failed book).book }
 
--- A circuit's exchanges in order, each with the book that those before it and the moments of the turns left.
+-- A circuit's exchanges in order, each with the book that those before it and the moments of the turns and passes left.
 abbrev pub transactions : CircuitPart → List Step → List Exchange → Option Book → List Transaction
 transactions part [] exchanges book = []
 transactions part (Tick now ∷ steps) exchanges book = transactions part steps exchanges (option_map (book_at now) book)
@@ -46,8 +46,8 @@ transactions part (Receive d ∷ steps) (x ∷ exchanges) book = transaction par
 abbrev pub transactions_in : ℕ → CircuitPart → AccessValue → AccessValue → List Exchange → List Transaction
 transactions_in c part old new exchanges = transactions part (steps_in old.topology c (added old new)) (own_exchanges old.topology c exchanges) (book_in old.server c)
 
--- The transaction of a datagram of circuit c between two states of a turn. Its save failed if the device counts more failed calls of
--- the circuit's region then.
+-- The transaction of a datagram of circuit c between two states of a turn or a pass. Its save failed if the device counts more failed
+-- calls of the circuit's region then.
 abbrev pub transaction_between : ℕ → CircuitPart → DeliveryValue → Result (List ℕ) Discard → Serving → Serving → Transaction
 transaction_between c part d answer old new = record {
   exchange = record { datagram = d; failed = failed_in old new part.region; answer = answer };

@@ -1,27 +1,37 @@
--- What a run added to the history, turn by turn.
-use Rattle.std.specs.Prelude.{◌≡◌, ℕ, List, [], ◌∷◌, ◌++◌, drop, length}
+-- What a run added to the history, round by round.
+use Rattle.std.specs.Prelude.{◌≡◌, ◌⊎◌, ℕ, zero, suc, List, [], ◌∷◌, ◌++◌, drop, length}
 use Rattle.config.specs.Topology.{IsTopology}
-use Rattle.access.specs.Access.{AccessValue, HasServedTurns}
+use Rattle.access.specs.Access.{AccessValue, HasTurnedOnce}
+use Rattle.access.specs.Pass.{HasPassedOnce}
 use Rattle.udp.specs.History.{Entry, Ticked}
 
--- Relay and server of a configuration made some turns.
+-- A round: a turn or a pass, at the moment of a reading of the clock.
+abbrev pub IsRound : ℕ → ℕ → AccessValue → AccessValue → Type 0
+IsRound before now old new = HasTurnedOnce before now old new ⊎ HasPassedOnce before now old new
+
+-- So many rounds, the last one at this moment.
+abbrev pub AreRounds : ℕ → ℕ → AccessValue → AccessValue → Type 0
+AreRounds zero now old new = (now ≡ 0) × (new ≡ old)
+AreRounds (suc n) now old new = (before : ℕ) × (middle : AccessValue) × AreRounds n before old middle × IsRound before now middle new
+
+-- Relay and server of a configuration made some rounds.
 pub record IsRun (old new : AccessValue) : Type 0 where
   pub topology : IsTopology old.topology
   pub served : old.server.topology ≡ old.topology
-  pub turns : ℕ
+  pub rounds : ℕ
   pub now : ℕ
-  pub turned : HasServedTurns turns now old new
+  pub made : AreRounds rounds now old new
 
 -- the entries that were added since then
 abbrev pub added : AccessValue → AccessValue → List Entry
 added old new = drop (length old.history) new.history
 
--- what happened in a turn, and its moment
+-- what happened in a turn or a pass, and its moment
 pub record Turn : Type 0 where
   pub entries : List Entry
   pub now : ℕ
 
--- A turn ends with its moment. These entries of the first one have been read already.
+-- A turn ends with its moment, and so does a pass. These entries of the first one have been read already.
 abbrev pub turns_after : List Entry → List Entry → List Turn
 turns_after before [] = []
 turns_after before (Ticked now ∷ entries) = record { entries = before; now = now } ∷ turns_after [] entries

@@ -16,7 +16,7 @@ ghost use Rattle.types.specs.declared.dest.Proto.TheVariants.{V4, V6};
 ghost use Rattle.udp.specs.History.{Empty, Read, Sent, Ticked, Took};
 ghost use Rattle.udp.specs.declared.history.Role.TheVariants.{Circuit, Relay, Server};
 
-/// A turn ends with its moment. What was taken after the last one is of no turn yet.
+/// A turn ends with its moment, and so does a pass. What was taken after the last one is of none yet.
 pub fn turns_end_with_their_moments()
     ensures turns { (a : Source) (m n : List ℕ)
         → turns_in (Read None ∷ Took (Server V4) a m ∷ Ticked 3 ∷ Ticked 4 ∷ Took (Server V6) a n ∷ [])

@@ -11,9 +11,10 @@ use crate::relaying::{relays_each_circuit_down_alone, relays_each_circuit_up_alo
 
 /// Isolation, for any two runs of relay and server in any two configurations: a circuit that is c in the one and d in the other, with
 /// the same part in both and the same book at the start. If the histories agree on what was taken for it, at its sockets, at the
-/// server and at its relay, on the moments of the turns, and on which of its saves failed, then what is sent for it is the same, byte
-/// for byte and in the same order, and it has the same book at the end. Whatever is taken for other circuits has no influence, nor
-/// has how many datagrams share their syncs. Where the circuit is open at the end of both runs, which saves failed does not matter.
+/// server and at its relay, on the moments of the turns and passes, and on which of its saves failed, then what is sent for it is the
+/// same, byte for byte and in the same order, and it has the same book at the end. Whatever is taken for other circuits has no
+/// influence, nor has how many datagrams share their syncs, nor whether a turn or a pass took them. Where the circuit is open at the
+/// end of both runs, which saves failed does not matter.
 pub fn isolation_of_histories()
     ensures sent { (c d : ℕ) (part : CircuitPart) (old new start end : AccessValue) (exchanges others : List Exchange)
         → IsRun old new → AreExchanges old new exchanges → slice_get old.topology.circuits c ≡ Some part

@@ -56,7 +56,7 @@ pub fn saves_before_it_acknowledges()
         → IfSome (book_in new.server c) (Knows p g) ⊎ Stands (Ended p g.client g.address) (ledger_of part after) }
 {}
 
-/// The replies to the datagrams that a turn takes together are sent in the state in which their saves have returned: where one
+/// The replies to the datagrams that the server takes together are sent in the state in which their saves have returned: where one
 /// acknowledges a lease, the device counts no new failed call of the circuit's region in that state, and the book that was saved has
 /// the lease. The same of a datagram that is received alone after that, between the states before it and after its reply.
 pub fn replies_after_the_save()
@@ -87,8 +87,8 @@ pub fn each_dhcpack_grants()
     replies::laws::reply_is_read();
 }
 
-/// A circuit that begins a run closed or with a book of its pools ends it so too, and may begin another run. Within a turn it stays so
-/// where datagrams are received together and where one is received alone.
+/// A circuit that begins a run closed or with a book of its pools ends it so too, and may begin another run. Within a turn or a pass
+/// it stays so where datagrams are received together and where one is received alone.
 pub fn keeps_to_its_pools()
     ensures run { (c : ℕ) (part : CircuitPart) (old new : AccessValue) (exchanges : List Exchange)
         → IsCircuitOf c part old new exchanges → IfSome (book_in new.server c) (IsBookOf part) }

@@ -8,6 +8,7 @@ pub mod examples;
 mod histories;
 mod leases;
 mod relaying;
+mod runs;
 mod waiting;
 
 pub use answers::{adds_to_the_history, serves_each_circuit_alone};
@@ -17,4 +18,5 @@ pub use leases::{
     replies_after_the_save, saves_before_it_acknowledges, slots_show_a_book_of_their_pools,
 };
 pub use relaying::{relays_each_circuit_down_alone, relays_each_circuit_up_alone};
+pub use runs::turns_and_passes_are_runs;
 pub use waiting::leaves_nothing_waiting;

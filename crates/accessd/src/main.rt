@@ -128,7 +128,7 @@ fn device(rt: &HostRuntime, config: &Config, values: &AccessWords<'_>) -> Result
     ensures opens { values.now.format ≡ false → IfOk result (λ disk. disk ≡ uncalled disk.length) }
     ensures status { IfErr result (λ status. (status ≡ 4) ⊎ (status ≡ 5)) }
 {
-    match device_of(rt, values.disk, values.format, config, MAX_CIRCUITS) {
+    match device_of(rt, values.disk, values.format, config, usize::from(MAX_CIRCUITS)) {
         Ok(disk) => Ok(disk),
         Err(fault) => {
             report_device(rt, values.disk, fault, values.format);

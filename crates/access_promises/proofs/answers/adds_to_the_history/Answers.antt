@@ -4,5 +4,5 @@ use Rattle.access_promises.proofs.answers.adds_to_the_history.Goals as goal
 
 pub returns : goal.returns
 returns x old new run =
-    let ran = run_ran run.turns run.now old new run.served run.turned in
+    let ran = run_ran old new run in
     ran.history ∙ ap (λ es. old.history ++ es) (sym (added_is old.topology old.port old new ran))

@@ -1,4 +1,4 @@
-use Rattle.std.proofs.Common.{◌∙◌, ℕ, length, sym, ap, subst, rules}
+use Rattle.std.proofs.Common.{◌≡◌, ◌≤◌, ◌+◌, ◌*◌, ◌∙◌, ℕ, length, sym, ap, subst, rules}
 use Rattle.std.proofs.lemmas.List.{length-map}
 use Rattle.config.specs.Topology.{Topology}
 use Rattle.config.specs.CircuitPart.{parts_of}
@@ -16,8 +16,10 @@ invariant_of-result g c =
     let config = c.args.config.now in
     let engine = c.in_ok-engine.ensures.engine in
     let topology = engine.topology in
-    let bound = c.in-Ok.ensures.bound in (
-      bound.circuits ∙ sym (ap (λ (t : Topology). length t.circuits) topology ∙ length-map config.circuits _),
+    let bound = c.in-Ok.ensures.bound in
+    let many : length c.in_ok-engine.engine.relays.topology.circuits ≡ length config.circuits = ap (λ (t : Topology). length t.circuits) topology ∙ length-map config.circuits _ in
+    let ports : c.args.options.port + 4 * length config.circuits ≤ 65536 = search rules in (
+      bound.circuits ∙ sym many,
       search rules,
       search rules,
       bound.relays ∙ sym (ap (λ (t : Topology). length t.relays) topology ∙ length-map config.relays _),
@@ -28,7 +30,7 @@ invariant_of-result g c =
       subst ServesEach (sym topology) (serves_each config),
       search rules,
       search rules,
-      search rules,
+      subst (λ n. c.args.options.port + 4 * n ≤ 65536) (sym many) ports,
       search rules,
     )
 
@@ -40,4 +42,4 @@ returns-in-Err-clause-socket g c =
     let regions = subst (HasRegions (parts_of config)) engine.count engine.large in
     let Bound = λ (at : Source). IsSocket config c.args.options.port at × WasRefused c.args.opening.now.entries c.bind_sockets.new.history.entries at in
     let Socket = λ (at : Source). IsSocket config c.args.options.port at × HasRegions (parts_of config) c.args.disk.regions × WasRefused c.args.opening.now.entries c.bind_sockets.new.history.entries at in
-    subst (RefusesSocket Socket) (sym c.from.ensures) (socket_refuses Bound Socket c.in-Err.why (λ at refused. (refused.0, regions, refused.1)) c.in-Err.ensures.refused)
+    subst (RefusesSocket Socket) (sym c.from-in-Err.ensures) (socket_refuses Bound Socket c.in-Err.why (λ at refused. (refused.0, regions, refused.1)) c.in-Err.ensures.refused)
