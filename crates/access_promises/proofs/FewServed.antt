@@ -23,7 +23,7 @@ use Rattle.access_promises.proofs.FewPolled.{Batch, polled_leads}
 use Rattle.access_promises.proofs.FewWait.{AreApart, FewWait, IsFromRelay, few_more, sent_back}
 use Rattle.access_promises.proofs.Queues.{Adds, Leads, Queues, adds_none, adds_then, adds_weaker, leads_both, leads_none, leads_weaker}
 
--- nothing is received in any other state of the history than this one
+-- What is received adds nothing to the history.
 received_history : (taken : List DeliveryValue) (answers : List (Result (List ℕ) Discard)) (old new : Serving) → AreReceived taken answers old new → new.history ≡ old.history
 received_history [] answers old new same = ap (λ (s : Serving). s.history) same
 received_history (d ∷ taken) answers old new received = ap (λ (s : Serving). s.history) received.rest
