@@ -10,6 +10,12 @@ mod EntryKinds
 mod ExchangeLemmas
 mod FailureLemmas
 mod IdleTicks
+mod FewFrames
+mod FewPassed
+mod FewPolled
+mod FewServed
+mod FewTaken
+mod FewWait
 mod LeaseLemmas
 mod LeasesInRuns
 mod Moves
@@ -18,6 +24,7 @@ mod OneRound
 mod OpenLemmas
 mod PassAttempts
 mod PassesInTurn
+mod Queues
 mod RoundEntries
 mod RunLemmas
 mod Serves

@@ -5,3 +5,4 @@ pub mod Histories
 pub mod Own
 pub mod Transactions
 pub mod Turns
+pub mod Waiting

@@ -10,6 +10,7 @@ mod histories;
 mod leases;
 mod relaying;
 mod runs;
+mod waiting;
 
 pub use answers::{adds_to_the_history, serves_each_circuit_alone};
 pub use attempts::tries_each_socket_in_turn;
@@ -20,3 +21,4 @@ pub use leases::{
 };
 pub use relaying::{relays_each_circuit_down_alone, relays_each_circuit_up_alone};
 pub use runs::turns_and_passes_are_runs;
+pub use waiting::leaves_nothing_waiting;
