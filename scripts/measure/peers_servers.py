@@ -184,7 +184,7 @@ def servers(accessd, relays):
     """Everything that is compared, in the order of the tables."""
     each = {"program": accessd, "relays": relays}
     return [
-        Accessd("accessd", "as scripts/operate/serve runs it: --pause 5 --batch 16", words=["--pause", "5", "--batch", "16"], **each),
+        Accessd("accessd", "--pause 5 --batch 16", words=["--pause", "5", "--batch", "16"], **each),
         Accessd("accessd, no batch", "--pause 5, each lease saved by itself", is_main=False, words=["--pause", "5"], **each),
         Kea("Kea", "memfile, which makes no sync", synced=()),
         Kea("Kea, file synced", "memfile in a folder with chattr +S: the file system syncs each write", is_main=False, is_synced=True),
