@@ -37,11 +37,14 @@ class PassWatch(Watch):
         super().__init__(("write", "sync", "send", "receive", "look"))
         self.ends, self.places = {}, {}
         self.made, self.allowed, self.stands, self.took_nothing = [], 0, False, False
+        # the longest wait after a pass that took nothing, in milliseconds
+        self.longest = 0
 
     def look(self, milliseconds):
         with self.changed:
             if milliseconds:
                 self.took_nothing = True
+                self.longest = max(self.longest, milliseconds)
                 return FOUND_NOTHING
             if not self.allowed:
                 self.stands = True
@@ -127,6 +130,11 @@ class SteppedService(Server):
         self.process.kill()
         self.watch.let_go()
         super().kill()
+
+    def stop(self):
+        status = super().stop()
+        self.watch.let_go()
+        return status
 
 
 def circuits_of(count):

@@ -5,9 +5,8 @@ server 16 are its own, and of 32 at a relay four. After one pass each circuit ha
 too; after each further pass that one has one more of each, and nobody else has any, until its sockets are empty. All that time the
 answers are as many as the frames that were taken."""
 import collections
-import socket
 
-from client import DISCOVER, LOOPBACK, frame, frame6
+from client import DISCOVER, LOOPBACK, Circuit, frame, frame6
 from stepped_service import FIRST_RELAY, SERVER_PORTS, SteppedService, circuits_of, frames_of, sent_to_clients
 
 CIRCUITS, RELAYS, FLOODER = 64, 4, 21
@@ -18,9 +17,9 @@ PASSES = 2 * MANY
 
 service = SteppedService("--format")
 circuits = circuits_of(CIRCUITS)
-stranger = socket.socket(socket.AF_INET, socket.SOCK_DGRAM)
+stranger = Circuit.bound(0)
 every = [(number, protocol) for number in range(CIRCUITS) for protocol in (4, 6)]
-flooders = [(FLOODER, 4), (FLOODER, 6)]
+flooders = {(FLOODER, 4), (FLOODER, 6)}
 for port in SERVER_PORTS:
     for _ in range(8):
         stranger.sendto(frame(DISCOVER, 1), (LOOPBACK, port))
@@ -35,7 +34,7 @@ service.await_datagrams("circuit", "server", "relay")
 
 
 def answers(wanted):
-    """The answers that have come to these circuits, by their kinds, of which as many are waited for as were sent."""
+    """The kinds of answers that come to these circuits, one to each for each time that it stands here."""
     kinds = collections.Counter()
     for number, protocol in wanted:
         circuit = circuits[number]
@@ -44,16 +43,16 @@ def answers(wanted):
 
 
 calls = service.step()
-print("frames taken:", frames_of(calls) == collections.Counter(every), "answers sent:", sent_to_clients(calls) == collections.Counter(every))
-strays = collections.Counter(call.place for call in calls if call.source == stranger.getsockname() or call.source and call.source[1] == stranger.getsockname()[1])
-print("strays:", dict(strays))
-print(answers(sent_to_clients(calls).elements()))
+print("one frame of each:", frames_of(calls) == collections.Counter(every))
+print("one answer to each:", sent_to_clients(calls) == collections.Counter(every), answers(every))
+print("of somebody else:", dict(collections.Counter(call.place for call in calls if call.source == stranger.getsockname())))
 passes = 0
 while frames := frames_of(calls := service.step()):
     passes += 1
-    if passes > PASSES or frames != sent_to_clients(calls) or any(place not in flooders or count != 1 for place, count in frames.items()):
+    # at the end one of the two may be empty before the other
+    if passes > PASSES or frames != sent_to_clients(calls) or not {*frames} <= flooders or {*frames.values()} != {1}:
         raise ValueError(f"{passes}: {frames}, {sent_to_clients(calls)}")
-    answers(frames.elements())
+    answers(frames)
 print("more than 64 further passes:", passes > 64)
 service.settle()
 print("more answers:", [*filter(None, (receive(0) for circuit in circuits for receive in (circuit.receive, circuit.receive6)))])

@@ -1,8 +1,8 @@
 """What a pass asks of the system, in order, while each of 40 circuits behind three relays has a frame of each protocol: slices of 16,
-16 and 8 circuits of DHCPv4 and then of DHCPv6. Of each slice the frames go to the server first; the server receives until it finds
-no more, or 16 and then until it finds no more; the leases are saved together, by three syncs; then come the answers; then each
-relay receives until it finds no more, and what it receives goes to the clients, before the next slice's first frame is received.
-The first save of a slot after the formatting has no gate to close, and no first write; a renewal has one (docs/FORMATS.md, The
+16 and 8 circuits of DHCPv4 and then of DHCPv6. First the frames of a slice go to the server. It receives 16, or fewer until it finds
+no more; their leases are saved together, by three syncs; then come the answers, and after 16 it tries once more. Then each relay
+receives until it finds no more, and what it receives goes to the clients. Circuits 0, 3, 6 and so on are behind the first relay: 6
+of the first 16, 5 of the next 16, and 3 of the last 8. Then the next slice's first frame is received. The first save of a slot after the formatting has no gate to close, and no first write; a renewal has one (docs/FORMATS.md, The
 disk)."""
 import itertools
 
@@ -10,47 +10,45 @@ from client import DISCOVER, REQUEST, frame, frame6, select
 from stepped_service import SteppedService, circuits_of
 
 CIRCUITS = 40
-# what a call is in the output, by its name, where it was made, and whether a datagram waited
+# what a call is in the output, by its name, where it was made, and whether a datagram waited; any other receive found nothing
 WORDS = {("receive", "circuit", True): "frame", ("send", "relay", False): "up", ("receive", "server", True): "received",
          ("send", "server", False): "answered", ("receive", "relay", True): "answer", ("send", "circuit", False): "down",
-         ("write", "file", False): "write", ("sync", "file", False): "sync"}
+         ("write", "file", False): "written", ("sync", "file", False): "sync"}
 
 service = SteppedService("--format")
 circuits = circuits_of(CIRCUITS)
 
 
-def numbered(calls, numbers):
-    """The calls as words; what a relay receives and sends on at once is one, and that what it sends goes to the circuits of the
-    slice is the other's matter."""
-    for call in calls:
-        word = WORDS.get((call.name, call.place, call.source is not None), "none")
-        if word in ("frame", "down"):
-            numbers.append(call.number)
-        yield word
+def word_of(call):
+    return WORDS.get((call.name, call.place, call.source is not None), "empty")
 
 
 def slices_of(calls):
-    """The calls of each slice: one begins with the first frame after another call than taking a frame on."""
-    slices, before = [[]], ""
+    """The calls of each slice. One begins with a receive from a circuit's socket after calls at the server and the relays."""
+    slices, is_taking = [[]], True
     for call in calls:
-        if call.place == "circuit" and call.name == "receive" and before not in ("", "circuit", "up"):
+        if word_of(call) == "frame" and not is_taking:
             slices.append([])
-        before = "up" if call.place == "relay" and call.name == "send" else call.place
+            is_taking = True
+        elif call.place == "server":
+            is_taking = False
         slices[-1].append(call)
     return slices
 
 
 def shown(calls):
-    """A slice in a line: its circuits, then its calls, equal ones counted."""
-    calls = [call for call in calls if not (call.place == "circuit" and call.name == "receive" and call.source is None)]
-    frames = [call.number for call in calls if call.place == "circuit" and call.name == "receive"]
-    downs = [call.number for call in calls if call.place == "circuit" and call.name == "send"]
-    protocols = {call.protocol for call in calls if call.place == "circuit"}
-    words = [WORDS.get((call.name, call.place, call.source is not None), "none") for call in calls]
-    pairs = " ".join(words).replace("frame up", "up").replace("answer down", "down").split()
-    counted = [word if word in ("none", "sync") else f"{len([*same])} {word}" for word, same in itertools.groupby(pairs)]
-    in_order = frames == [*range(frames[0], frames[-1] + 1)] and sorted(downs) == frames
-    return f"DHCPv{protocols} c{frames[0]} to c{frames[-1]}, {in_order}: {', '.join(counted)}"
+    """A slice in a line: of which circuits, and its calls after one another. A frame and what is sent up of it are one, and so are
+    an answer at a relay and what is sent down of it."""
+    # a socket from which a frame came in the pass before is found empty, whenever it is tried next
+    calls = [call for call in calls if (word_of(call), call.place) != ("empty", "circuit")]
+    frames = [(call.number, call.protocol) for call in calls if word_of(call) == "frame"]
+    downs = [(call.number, call.protocol) for call in calls if word_of(call) == "down"]
+    first, last = frames[0], frames[-1]
+    is_whole = frames == [(number, first[1]) for number in range(first[0], last[0] + 1)] == sorted(downs)
+    words = " ".join(map(word_of, calls)).replace("frame up", "up").replace("answer down", "down").split()
+    counted = [(word, len([*same])) for word, same in itertools.groupby(words)]
+    listed = ", ".join(word if word in ("empty", "sync") and count == 1 else f"{count} {word}" for word, count in counted)
+    return f"DHCPv{first[1]} of c{first[0]} to c{last[0]}{'' if is_whole else ', not in order or not answered alone'}: {listed}"
 
 
 def one_pass():
