@@ -103,7 +103,10 @@ class SteppedService(Server):
     def __init__(self, *words):
         self.watch = PassWatch()
         super().__init__("accessd", "config.toml", "leases", "--service", "--port", str(PORT), *words, start=self.watch.start)
-        self.watch.until_it_stands()
+        try:
+            self.watch.until_it_stands()
+        except EOFError:
+            raise EOFError(self.first_line + self.process.communicate()[1]) from None
         self.watch.know()
         self.settle()
 
@@ -140,6 +143,13 @@ class SteppedService(Server):
 def circuits_of(count):
     """The clients' ends of the first circuits."""
     return [Circuit(PORT + 4 * number) for number in range(count)]
+
+
+def wanted(answer):
+    """An answer that has to come. Where one does not, nobody waits for more."""
+    if answer is None:
+        raise TimeoutError("no answer")
+    return answer
 
 
 def sent_to_clients(calls):

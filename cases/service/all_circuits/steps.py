@@ -2,7 +2,7 @@
 address. The service is killed, and started again over the same file: it acknowledges each client's renewal, with the same address.
 A service has up to 1024 circuits; so many take longer than a case may over programs without proofs, of which an exchange takes 3 ms."""
 from client import DISCOVER, REQUEST, Server, frame, frame6, select
-from stepped_service import PORT, circuits_of
+from stepped_service import PORT, circuits_of, wanted
 
 CIRCUITS, CLIENTS = 256, 16
 
@@ -17,10 +17,7 @@ def exchanged(send, receive, frames):
     """The answers to frames, one of each circuit, all of which are sent before the first answer is read."""
     for circuit, data in zip(circuits, frames):
         send(circuit, data)
-    answers = [receive(circuit) for circuit in circuits]
-    if None in answers:
-        raise TimeoutError(f"circuit {answers.index(None)} has no answer")
-    return answers
+    return [wanted(receive(circuit)) for circuit in circuits]
 
 
 def exchanged4(frames):

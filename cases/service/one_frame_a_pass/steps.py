@@ -44,7 +44,7 @@ def answers(wanted):
 
 calls = service.step()
 print("one frame of each:", frames_of(calls) == collections.Counter(every))
-print("one answer to each:", sent_to_clients(calls) == collections.Counter(every), answers(every))
+print("one answer to each:", sent_to_clients(calls) == collections.Counter(every), answers(sent_to_clients(calls)))
 print("of somebody else:", dict(collections.Counter(call.place for call in calls if call.source == stranger.getsockname())))
 passes = 0
 while frames := frames_of(calls := service.step()):

@@ -7,7 +7,7 @@ disk)."""
 import itertools
 
 from client import DISCOVER, REQUEST, frame, frame6, select
-from stepped_service import SteppedService, circuits_of
+from stepped_service import SteppedService, circuits_of, wanted
 
 CIRCUITS = 40
 # what a call is in the output, by its name, where it was made, and whether a datagram waited; any other receive found nothing
@@ -55,7 +55,7 @@ def one_pass():
     """Shows the pass that takes what has been sent, and returns the answers to it."""
     service.await_datagrams("circuit")
     print(*map(shown, slices_of(service.step())), sep="\n")
-    return [circuit.receive() for circuit in circuits], [circuit.receive6() for circuit in circuits]
+    return [wanted(circuit.receive()) for circuit in circuits], [wanted(circuit.receive6()) for circuit in circuits]
 
 
 for circuit in circuits:

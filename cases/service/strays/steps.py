@@ -30,5 +30,5 @@ for circuit in circuits:
     circuit.send6(frame6("SOLICIT6", 1))
 service.await_datagrams("circuit")
 print({*sent_to_clients(service.step()).values()}, len(circuits))
-print({str(answer).partition(" ")[0] for circuit in circuits for answer in (circuit.receive(), circuit.receive6())})
+print(sorted({str(answer).partition(" ")[0] for circuit in circuits for answer in (circuit.receive(), circuit.receive6())}))
 service.kill()
