@@ -100,9 +100,9 @@ class PassWatch(Watch):
 class SteppedService(Server):
     """A run of `accessd .. --service` over `config.toml` at the ports from `PORT` on, that stands still at the beginning of a pass."""
 
-    def __init__(self, *words):
+    def __init__(self, program, *words):
         self.watch = PassWatch()
-        super().__init__("accessd", "config.toml", "leases", "--service", "--port", str(PORT), *words, start=self.watch.start)
+        super().__init__(program, "config.toml", "leases", "--service", "--port", str(PORT), *words, start=self.watch.start)
         try:
             self.watch.until_it_stands()
         except EOFError:
@@ -150,6 +150,11 @@ def wanted(answer):
     if answer is None:
         raise TimeoutError("no answer")
     return answer
+
+
+def listed(counts):
+    """Counts in words, in order of what they are of."""
+    return ", ".join(f"{count} {what}" for what, count in sorted(counts.items()))
 
 
 def sent_to_clients(calls):

@@ -5,7 +5,7 @@ from client import DISCOVER, frame, frame6
 from stepped_service import SteppedService, circuits_of
 
 ROUNDS, PASSES = 4, 5000
-service = SteppedService("--format")
+service = SteppedService("accessd", "--format")
 first, second = circuits_of(2)
 for _ in range(ROUNDS):
     calls = service.step(PASSES)

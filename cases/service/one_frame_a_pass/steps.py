@@ -7,7 +7,7 @@ answers are as many as the frames that were taken."""
 import collections
 
 from client import DISCOVER, LOOPBACK, Circuit, frame, frame6
-from stepped_service import FIRST_RELAY, SERVER_PORTS, SteppedService, circuits_of, frames_of, sent_to_clients
+from stepped_service import FIRST_RELAY, SERVER_PORTS, SteppedService, circuits_of, frames_of, listed, sent_to_clients
 
 CIRCUITS, RELAYS, FLOODER = 64, 4, 21
 # more than a socket holds: the system drops the rest
@@ -15,7 +15,7 @@ MANY = 1000
 # no further than this
 PASSES = 2 * MANY
 
-service = SteppedService("--format")
+service = SteppedService("accessd", "--format")
 circuits = circuits_of(CIRCUITS)
 stranger = Circuit.bound(0)
 every = [(number, protocol) for number in range(CIRCUITS) for protocol in (4, 6)]
@@ -39,13 +39,13 @@ def answers(wanted):
     for number, protocol in wanted:
         circuit = circuits[number]
         kinds[str(circuit.receive() if protocol == 4 else circuit.receive6()).partition(" ")[0]] += 1
-    return dict(kinds)
+    return listed(kinds)
 
 
 calls = service.step()
 print("one frame of each:", frames_of(calls) == collections.Counter(every))
 print("one answer to each:", sent_to_clients(calls) == collections.Counter(every), answers(sent_to_clients(calls)))
-print("of somebody else:", dict(collections.Counter(call.place for call in calls if call.source == stranger.getsockname())))
+print("of somebody else:", listed(collections.Counter(call.place for call in calls if call.source == stranger.getsockname())))
 passes = 0
 while frames := frames_of(calls := service.step()):
     passes += 1

@@ -15,7 +15,7 @@ WORDS = {("receive", "circuit", True): "frame", ("send", "relay", False): "up", 
          ("send", "server", False): "answered", ("receive", "relay", True): "answer", ("send", "circuit", False): "down",
          ("write", "file", False): "written", ("sync", "file", False): "sync"}
 
-service = SteppedService("--format")
+service = SteppedService("accessd", "--format")
 circuits = circuits_of(CIRCUITS)
 
 

@@ -5,14 +5,15 @@ nobody sends, the circuits are served again within a pass. All these numbers are
 import collections
 
 from client import DISCOVER, LOOPBACK, Circuit, frame, frame6
-from stepped_service import FIRST_RELAY, SERVER_PORTS, SteppedService, circuits_of, sent_to_clients
+from stepped_service import FIRST_RELAY, SERVER_PORTS, SteppedService, circuits_of, listed, sent_to_clients, wanted
 
 CIRCUITS, RELAYS = 64, 4
 # a socket holds more than five slices take, and fewer than this
 MANY = 1000
 
-service = SteppedService("--format")
+service = SteppedService("accessd", "--format")
 circuits = circuits_of(CIRCUITS)
+every = [(number, protocol) for number in range(CIRCUITS) for protocol in (4, 6)]
 stranger = Circuit.bound(0)
 for port in (*SERVER_PORTS, *(FIRST_RELAY + relay for relay in range(RELAYS))):
     for _ in range(MANY):
@@ -21,7 +22,7 @@ for circuit in circuits:
     circuit.send(frame(DISCOVER, 1))
 service.await_datagrams("server", "relay")
 calls = service.step()
-print(dict(collections.Counter((call.place, call.number if call.place == "relay" else "") for call in calls if call.source)))
+print(listed(collections.Counter(f"relay {call.number}" if call.place == "relay" else call.place for call in calls if call.source)))
 service.settle()
 for circuit in circuits:
     while circuit.receive(0) or circuit.receive6(0):
@@ -29,6 +30,7 @@ for circuit in circuits:
     circuit.send(frame(DISCOVER, 1))
     circuit.send6(frame6("SOLICIT6", 1))
 service.await_datagrams("circuit")
-print({*sent_to_clients(service.step()).values()}, len(circuits))
-print(sorted({str(answer).partition(" ")[0] for circuit in circuits for answer in (circuit.receive(), circuit.receive6())}))
+print("one answer to each:", sent_to_clients(service.step()) == collections.Counter(every))
+answers = [wanted(receive()) for circuit in circuits for receive in (circuit.receive, circuit.receive6)]
+print(listed(collections.Counter(str(answer).partition(" ")[0] for answer in answers)))
 service.kill()
