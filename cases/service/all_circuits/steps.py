@@ -1,10 +1,10 @@
-"""Each of 16 clients of either protocol of 256 circuits behind eight relays has a lease, and no two of a circuit have the same
+"""Each of 16 clients of either protocol of 128 circuits behind eight relays has a lease, and no two of a circuit have the same
 address. The service is killed, and started again over the same file: it acknowledges each client's renewal, with the same address.
 A service has up to 1024 circuits; so many take longer than a case may over programs without proofs, of which an exchange takes 3 ms."""
 from client import DISCOVER, REQUEST, Server, frame, frame6, select
 from stepped_service import PORT, circuits_of, wanted
 
-CIRCUITS, CLIENTS = 256, 16
+CIRCUITS, CLIENTS = 128, 16
 
 
 def started(*words):

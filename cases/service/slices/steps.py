@@ -2,8 +2,8 @@
 16 and 8 circuits of DHCPv4 and then of DHCPv6. First the frames of a slice go to the server. It receives 16, or fewer until it finds
 no more; their leases are saved together, by three syncs; then come the answers, and after 16 it tries once more. Then each relay
 receives until it finds no more, and what it receives goes to the clients. Circuits 0, 3, 6 and so on are behind the first relay: 6
-of the first 16, 5 of the next 16, and 3 of the last 8. Then the next slice's first frame is received. The first save of a slot after the formatting has no gate to close, and no first write; a renewal has one (docs/FORMATS.md, The
-disk)."""
+of the first 16, 5 of the next 16, and 3 of the last 8. Then the next slice's first frame is received. The first save of a slot
+after the formatting has no gate to close, and no first write; a renewal has one (docs/FORMATS.md, The disk)."""
 import itertools
 
 from client import DISCOVER, REQUEST, frame, frame6, select
