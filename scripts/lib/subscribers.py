@@ -1,5 +1,6 @@
-"""Clients of both protocols that lease and renew all the time over the circuits of an `accessd`, for scripts/gate/flood: whether
-each message is answered, how long that takes, how often it is sent again, and whether a client alone keeps its address."""
+"""Clients of both protocols that lease and renew all the time over the circuits of an `accessd`, for scripts/gate/flood and those that
+measure: whether each message is answered, how long that takes, how often it is sent again, and whether a client alone keeps its
+address."""
 import itertools
 import math
 import select
@@ -186,6 +187,21 @@ class Crowd:
         for subscriber in waiting:
             subscriber.client.waits_for = None
         return waiting
+
+    def leave_alone(self, circuits):
+        """From here on nobody takes what comes to these circuits."""
+        for descriptor, line in self.lines.items():
+            if line.index in circuits:
+                self.ready.unregister(descriptor)
+
+    def wait_for_renewal(self, subscriber, seconds):
+        """This one renews alone. Returns how many milliseconds its answer takes, or None if none comes in so many seconds."""
+        subscriber.latencies = []
+        subscriber.begin("renew")
+        while subscriber.waits() and time.monotonic() < subscriber.sent + seconds:
+            self.take()
+        subscriber.client.waits_for = None
+        return subscriber.latencies[0] if subscriber.latencies else None
 
     def settle(self):
         """Lets everybody end what they began, and lease if they hold nothing."""
