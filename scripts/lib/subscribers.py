@@ -13,6 +13,8 @@ from load import Client4, Client6
 PATIENCE, LONG_PATIENCE, REPEATS = 0.2, 0.8, 12
 # seconds between two exchanges of whomever: three of four save a lease, and a slow disk takes 12 ms for that
 REST = 0.015
+# on how many circuits subscribers begin together
+TOGETHER = 32
 # seconds without an answer to anybody after which those that wait are not answered: where that is expected of them, and
 # where it may be that the machine is busy
 SILENCE, LONG_SILENCE = 0.3, 3
@@ -130,7 +132,8 @@ class Crowd:
                 self.ready.register(line.end, select.EPOLLIN)
         self.steps = {index: ("ask", "take", "renew", "release" if may_release(index) else "renew")
                       for index in range(circuits)}
-        self.join(self.steps)
+        for first in range(0, circuits, TOGETHER):
+            self.join(range(first, min(first + TOGETHER, circuits)))
 
     def join(self, circuits):
         """One subscriber more for each protocol of each of these circuits, which leases."""
