@@ -7,6 +7,7 @@ import pathlib
 import resource
 import shlex
 import signal
+import statistics
 import subprocess
 import time
 import typing
@@ -135,3 +136,8 @@ def in_turn(ways, rounds, measure):
         for way in ways if turn % 2 == 0 else reversed(ways):
             found[way.name].append(measure(way))
     return found
+
+
+def quartiles(figures, others):
+    """A quarter, half and three quarters of the ratios are at most this: of these figures to the others of their rounds."""
+    return statistics.quantiles((one / other for one, other in zip(figures, others)), n=4)
