@@ -40,7 +40,7 @@ class Way(typing.NamedTuple):
         turns, rest = MOST_TURNS, self.words
         if "--turns" in rest:
             at = rest.index("--turns")
-            turns, rest = int(rest[at + 1]), rest[:at] + rest[at + 2:]
+            turns, rest = rest[at + 1], rest[:at] + rest[at + 2:]
         return Server(str(self.program), config, leases, *rest, *more, turns=turns, **how)
 
 
@@ -53,7 +53,7 @@ def ways_of(program, old, each):
 def words_to_serve(text):
     """Reads an argument that says how an `accessd` serves, such as '--batch 16' or '--service'."""
     words = shlex.split(text)
-    if "--turns" in words and not words[words.index("--turns") + 1:][:1]:
+    if words[-1:] == ["--turns"]:
         raise argparse.ArgumentTypeError("--turns has no number")
     return words
 
