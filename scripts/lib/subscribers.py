@@ -1,5 +1,6 @@
-"""Clients of both protocols that lease and renew all the time over the circuits of an `accessd`, for scripts/gate/flood: whether
-each message is answered, how long that takes, how often it is sent again, and whether a client alone keeps its address."""
+"""Clients of both protocols that lease and renew all the time over the circuits of an `accessd`, for scripts/gate/flood and those that
+measure: whether each message is answered, how long that takes, how often it is sent again, and whether a client alone keeps its
+address."""
 import itertools
 import math
 import select
@@ -12,6 +13,8 @@ from load import Client4, Client6
 PATIENCE, LONG_PATIENCE, REPEATS = 0.2, 0.8, 12
 # seconds between two exchanges of whomever: three of four save a lease, and a slow disk takes 12 ms for that
 REST = 0.015
+# on how many circuits subscribers begin together
+TOGETHER = 32
 # seconds without an answer to anybody after which those that wait are not answered: where that is expected of them, and
 # where it may be that the machine is busy
 SILENCE, LONG_SILENCE = 0.3, 3
@@ -129,7 +132,8 @@ class Crowd:
                 self.ready.register(line.end, select.EPOLLIN)
         self.steps = {index: ("ask", "take", "renew", "release" if may_release(index) else "renew")
                       for index in range(circuits)}
-        self.join(self.steps)
+        for first in range(0, circuits, TOGETHER):
+            self.join(range(first, min(first + TOGETHER, circuits)))
 
     def join(self, circuits):
         """One subscriber more for each protocol of each of these circuits, which leases."""
@@ -186,6 +190,21 @@ class Crowd:
         for subscriber in waiting:
             subscriber.client.waits_for = None
         return waiting
+
+    def leave_alone(self, circuits):
+        """From here on nobody takes what comes to these circuits."""
+        for descriptor, line in self.lines.items():
+            if line.index in circuits:
+                self.ready.unregister(descriptor)
+
+    def wait_for_renewal(self, subscriber, seconds):
+        """This one renews alone. Returns how many milliseconds its answer takes, or None if none comes in so many seconds."""
+        subscriber.latencies = []
+        subscriber.begin("renew")
+        while subscriber.waits() and time.monotonic() < subscriber.sent + seconds:
+            self.take()
+        subscriber.client.waits_for = None
+        return subscriber.latencies[0] if subscriber.latencies else None
 
     def settle(self):
         """Lets everybody end what they began, and lease if they hold nothing."""
