@@ -93,6 +93,12 @@ def compile_c(name, folder, *options, parts=()):
     return program
 
 
+def slower_syncs(microseconds, folder):
+    """The variables of an environment in which each sync of a file takes so much longer; `folder` has what is compiled for that."""
+    library = compile_c("slow_sync", folder, "-shared", "-fPIC")
+    return {"LD_PRELOAD": library, "SLOW_SYNC": str(microseconds)}
+
+
 def on_processor(number):
     """What puts a process on this processor alone, where there are so many; it runs between fork and exec."""
     processors = sorted(os.sched_getaffinity(0))

@@ -8,7 +8,7 @@ use Rattle.lease_disk.specs.FileDisk.{FileDiskValue}
 use Rattle.dispatch.specs.Batch.{circuits_of}
 use Rattle.dispatch.specs.Regions.{HasRegions}
 use Rattle.circuit_server.specs.Server.{Book, book_at}
-use Rattle.dispatch.specs.ServerValue.{ServerValue, books_in}
+use Rattle.dispatch.specs.ServerValue.{BeginsAsFound, ServerValue, books_in}
 use Rattle.config.specs.CircuitPart.{parts_of}
 use Rattle.config.specs.Topology.{IsTopology, Topology, serves, topology_of}
 use Rattle.settings.specs.Settings.{Settings}
@@ -82,6 +82,8 @@ pub record IsOpenedAccess (config : Settings) (disk : FileDiskValue) (port batch
   pub topology : access.topology ≡ topology_of config
   pub sound : IsTopology access.topology
   pub served : access.server.topology ≡ topology_of config
+  -- each open circuit begins with a book that slots on the device mean
+  pub found : BeginsAsFound access.server
   pub large : HasRegions (parts_of config) access.disk.regions
   pub formats : length access.formats ≡ length config.circuits
   pub reads : access.disk.reads ≤ disk.reads + 6 * length config.circuits

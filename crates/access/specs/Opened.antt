@@ -4,6 +4,7 @@ use Rattle.config.specs.CircuitPart.{parts_of}
 use Rattle.config.specs.Topology.{IsTopology, topology_of}
 use Rattle.counts.specs.Tally.{nothing_taken}
 use Rattle.dispatch.specs.Regions.{HasRegions}
+use Rattle.dispatch.specs.ServerValue.{BeginsAsFound}
 use Rattle.lease_disk.specs.FileDisk.{FileDiskValue}
 use Rattle.settings.specs.Settings.{Settings}
 use Rattle.sockets.specs.Sockets.{AreBound}
@@ -16,6 +17,7 @@ pub record IsEngine (config : Settings) (disk : FileDiskValue) (engine : Engine)
   pub topology : engine.relays.topology ≡ topology_of config
   pub sound : IsTopology (topology_of config)
   pub served : engine.server.topology ≡ topology_of config
+  pub found : BeginsAsFound engine.server
   pub large : HasRegions (parts_of config) engine.disk.regions
   pub count : engine.disk.regions ≡ disk.regions
   pub formats : length engine.formats.items ≡ length config.circuits

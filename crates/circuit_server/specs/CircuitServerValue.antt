@@ -12,7 +12,7 @@ use Rattle.bindings_v4.specs.Kept4 as kept4
 use Rattle.bindings_v4.specs.Slots4 as slots4
 use Rattle.bindings_v6.specs.Kept6 as kept6
 use Rattle.bindings_v6.specs.Slots6 as slots6
-use Rattle.circuit_server.specs.Leases.{Leases, formats_of, restarts_of}
+use Rattle.circuit_server.specs.Leases.{Leases, book_in, formats_of, restarts_of}
 use Rattle.circuit_server.specs.Server.{Book}
 
 -- of an open circuit: its clock, what the slots of its pools hold, and what the next save has to know
@@ -47,6 +47,10 @@ HasPools part state = IfSome state (λ o. (o.four.pool ≡ pool4_of part) × (o.
 
 abbrev pub HasItsPools : CircuitServerValue → Type 0
 HasItsPools s = HasPools s.part s.state
+
+-- the book of an open circuit is what some slots of a region mean: at their clock, and without offers
+abbrev pub HasFoundBook : CircuitServerValue → Type 0
+HasFoundBook s = IfSome s.state (λ o. (slots : Slots) × (open_book o ≡ book_in s.part slots))
 
 -- how many addresses its pools have
 abbrev pub counts_in : OpenCircuitValue → List ℕ

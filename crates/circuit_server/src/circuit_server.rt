@@ -10,7 +10,7 @@ ghost use Rattle.requests.specs.RelayedMessage.{IsRelayedMessage};
 ghost use Rattle.circuit_server.specs.Prepared.{CanSaveDecision, IsApplied, IsAppliedAndSaved, IsDropped, IsPrepared};
 ghost use Rattle.circuit_server.specs.Prepared.{IsDecisionSettled, IsSettled, with_marks};
 ghost use Rattle.circuit_server.specs.CircuitDecision.{FitsCircuit, with_decision};
-ghost use Rattle.circuit_server.specs.CircuitServerValue.{HasPools, IsReadyFor, OpenCircuitValue, kept_slots, open_book};
+ghost use Rattle.circuit_server.specs.CircuitServerValue.{HasFoundBook, HasPools, IsReadyFor, OpenCircuitValue, kept_slots, open_book};
 ghost use Rattle.circuit_server.specs.Ticked.{IsLater, state_at};
 ghost use Rattle.circuit_server.specs.Unoffered.{state_unoffered};
 ghost use Rattle.lease_disk.specs.Device.{ChangesOne};
@@ -78,6 +78,7 @@ impl CircuitServer {
         requires clean { D.tells ≡ true → ((D.device disk.old).region part.now.region).readable ≡ true
             → IsClean ((D.device disk.old).region part.now.region) }
         ensures pools { HasPools part.now self.new }
+        ensures found { HasFoundBook (record { part = part.now; state = self.new }) }
         ensures restarted { IsRestarted D.tells part.now self.new (D.device disk.old) (D.device disk.new) }
         ensures frame { ChangesOne D.tells part.now.region (D.device disk.old) (D.device disk.new) }
         ensures reads { (D.device disk.new).reads ≤ (D.device disk.old).reads + 5 }

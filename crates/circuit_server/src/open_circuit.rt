@@ -6,7 +6,7 @@ ghost use Rattle.circuit_server.specs.Deadlines.{held_until};
 ghost use Rattle.circuit_server.specs.Leases.{book_in, found_book};
 ghost use Rattle.circuit_server.specs.Prepared.{saving_of};
 ghost use Rattle.circuit_server.specs.Server.{book_at, kept_book};
-ghost use Rattle.circuit_server.specs.CircuitServerValue.{HasPools, IsReadyFor, counts_in, kept_slots, open_book};
+ghost use Rattle.circuit_server.specs.CircuitServerValue.{HasFoundBook, HasPools, IsReadyFor, counts_in, kept_slots, open_book};
 ghost use Rattle.circuit_server.specs.Ticked.{open_at};
 ghost use Rattle.lease_disk.specs.Book.{IsBook};
 ghost use Rattle.lease_disk.specs.Device.{TouchesNothing};
@@ -47,6 +47,7 @@ impl OpenCircuit {
     pub(crate) fn recover<D: Disk>(part: &CircuitPart, disk: &mut D) -> Option<OpenCircuit>
         requires { part.now.region < (D.device disk.old).count }
         ensures pools { HasPools part.now result }
+        ensures found { HasFoundBook (record { part = part.now; state = result }) }
         ensures book { D.tells ≡ true → option_map open_book result ≡ found_book part.now ((D.device disk.old).region part.now.region) }
         ensures ready { D.tells ≡ true → is_format2 ((D.device disk.old).region part.now.region).byte ≡ true
             → (((D.device disk.old).region part.now.region).readable ≡ true → IsClean ((D.device disk.old).region part.now.region))

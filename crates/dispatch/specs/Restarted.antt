@@ -4,11 +4,11 @@ use Rattle.lease_disk.specs.Device.{Device}
 use Rattle.timers.specs.Deadlines.{DeadlinesValue}
 use Rattle.config.specs.CircuitPart.{CircuitPart, IsPart}
 use Rattle.config.specs.Topology.{RegionsDiffer}
-use Rattle.circuit_server.specs.CircuitServerValue.{HasItsPools, IsReady, OpenCircuitValue, leases_of}
+use Rattle.circuit_server.specs.CircuitServerValue.{HasFoundBook, HasItsPools, IsReady, OpenCircuitValue, leases_of}
 use Rattle.circuit_server.specs.Leases.{found_leases}
 use Rattle.dispatch.specs.Deadlines.{AreSetAnew}
 use Rattle.dispatch.specs.Regions.{AreRegionsMigrated, AreSynced, HasRegions, KeepsOthers}
-use Rattle.dispatch.specs.ServerValue.{AreReady, HoldsDeadlines, ServerValue, leases_in, with_states}
+use Rattle.dispatch.specs.ServerValue.{AreReady, BeginsAsFound, HoldsDeadlines, ServerValue, leases_in, with_states}
 
 -- Each circuit has a region of its own on the device, and of one that can be read no byte is unsynced.
 pub record CanRestart (tells : Bool) (parts : List CircuitPart) (device : Device) : Type 0 where
@@ -20,6 +20,7 @@ pub record CanRestart (tells : Bool) (parts : List CircuitPart) (device : Device
 -- Each circuit has what its region held.
 pub record AreRestarted (tells : Bool) (parts : List CircuitPart) (states : List (Option OpenCircuitValue)) (old new : Device) : Type 0 where
   pub pools : All HasItsPools (with_states parts states)
+  pub found : All HasFoundBook (with_states parts states)
   pub leases : tells ≡ true → map (leases_of new.region) (with_states parts states) ≡ map (found_leases old.region old.failing_call) parts
   pub ready : tells ≡ true → All (IsReady new.region) (with_states parts states)
   pub regions : tells ≡ true → AreRegionsMigrated parts old new
@@ -42,5 +43,6 @@ pub record IsOpened (tells : Bool) (parts : List CircuitPart) (server : ServerVa
   pub leases : tells ≡ true → leases_in new.region server ≡ map (found_leases old.region old.failing_call) parts
   pub ready : tells ≡ true → AreReady new.region server
   pub deadlines : AreSetAnew server.deadlines server.states
+  pub found : BeginsAsFound server
   pub large : HasRegions parts new.count
   pub regions : tells ≡ true → AreRegionsMigrated parts old new

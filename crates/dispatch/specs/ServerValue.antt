@@ -4,7 +4,7 @@ use Rattle.config.specs.CircuitPart.{CircuitPart}
 use Rattle.config.specs.Topology.{IsTopology, Topology}
 use Rattle.lease_disk.specs.Region.{Region}
 use Rattle.timers.specs.Deadlines.{DeadlinesValue}
-use Rattle.circuit_server.specs.CircuitServerValue.{CircuitServerValue, HasItsPools, IsReady, OpenCircuitValue, server_book, leases_of}
+use Rattle.circuit_server.specs.CircuitServerValue.{CircuitServerValue, HasFoundBook, HasItsPools, IsReady, OpenCircuitValue, server_book, leases_of}
 use Rattle.circuit_server.specs.Deadlines.{HasDeadlines}
 use Rattle.circuit_server.specs.Leases.{Leases}
 use Rattle.circuit_server.specs.Server.{Book}
@@ -31,6 +31,10 @@ books_in s = map server_book (circuits_in s)
 
 abbrev pub leases_in : (ℕ → Region) → ServerValue → List Leases
 leases_in regions s = map (leases_of regions) (circuits_in s)
+
+-- the book of every open circuit is what some slots of a region mean: at their clock, and without offers
+abbrev pub BeginsAsFound : ServerValue → Type 0
+BeginsAsFound s = All HasFoundBook (circuits_in s)
 
 -- every open circuit's region can be saved to
 abbrev pub AreReady : (ℕ → Region) → ServerValue → Type 0

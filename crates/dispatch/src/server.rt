@@ -8,7 +8,7 @@ ghost use Rattle.circuit_server.specs.Deadlines.{held_in};
 ghost use Rattle.circuit_server.specs.SlotsOfPools.{HasItsSlots};
 ghost use Rattle.dispatch.specs.Batch.{is_circuit};
 ghost use Rattle.dispatch.specs.Deadlines.{AllUnchangedOrUntilHeld, AreSetAnew, KeepsDeadlines};
-ghost use Rattle.dispatch.specs.ServerValue.{AreReady, HoldsDeadlines, books_in, circuits_in, leases_in};
+ghost use Rattle.dispatch.specs.ServerValue.{AreReady, BeginsAsFound, HoldsDeadlines, books_in, circuits_in, leases_in};
 ghost use Rattle.circuit_server.specs.Leases.{Leases, after_tick, found_leases, turned};
 ghost use Rattle.dispatch.specs.Regions.{AreRegionsMigrated, AreSynced, HasRegions, KeepsOthers};
 ghost use Rattle.dispatch.specs.Restarted.{IsOpened, IsRestartOf};
@@ -127,6 +127,7 @@ impl Server {
             leases_in (D.device disk.new).region server
             ≡ map (found_leases (D.device disk.old).region (D.device disk.old).failing_call)
             (parts_of config.now)) }
+        ensures found { IfOk result (λ server. BeginsAsFound server) }
         ensures ready { D.tells ≡ true → IfOk result (λ server. AreReady (D.device disk.new).region server) }
         ensures deadlines { IfOk result (λ server. AreSetAnew server.deadlines server.states) }
         ensures large { IfOk result (λ server. HasRegions (parts_of config.now) (D.device disk.new).count) }
@@ -160,6 +161,7 @@ impl Server {
             leases_in (D.device disk.new).region server
             ≡ map (found_leases (D.device disk.old).region (D.device disk.old).failing_call)
             (parts_of plans.now.union)) }
+        ensures found { IfOk result (λ server. BeginsAsFound server) }
         ensures ready { D.tells ≡ true → IfOk result (λ server. AreReady (D.device disk.new).region server) }
         ensures deadlines { IfOk result (λ server. AreSetAnew server.deadlines server.states) }
         ensures large { IfOk result (λ server. HasRegions (parts_of plans.now.union) (D.device disk.new).count) }
@@ -419,6 +421,7 @@ impl Server {
             → leases_in (D.device disk.new).region self.new
             ≡ map (found_leases (D.device disk.old).region (D.device disk.old).failing_call)
             self.old.topology.circuits }
+        ensures found { BeginsAsFound self.new }
         ensures ready { D.tells ≡ true → AreReady (D.device disk.new).region self.new }
         ensures deadlines { AreSetAnew self.new.deadlines self.new.states }
         ensures examined { self.new.deadlines.examined ≡ self.old.deadlines.examined }

@@ -4,7 +4,7 @@ ghost use Rattle.opening.specs.Opening.{IsCalledToOpen, format_of, formats_of};
 ghost use Rattle.config.specs.CircuitPart.{parts_of};
 ghost use Rattle.config.specs.Topology.{topology_of};
 ghost use Rattle.dispatch.specs.Regions.{AreSynced, HasRegions};
-ghost use Rattle.dispatch.specs.ServerValue.{AreReady};
+ghost use Rattle.dispatch.specs.ServerValue.{AreReady, BeginsAsFound};
 ghost use Rattle.dispatch.specs.declared.server.OpenFault.TheVariants as fault;
 ghost use Rattle.lease_disk.specs.Device.{TouchesNothing};
 
@@ -55,6 +55,7 @@ pub fn open_server<D: Disk>(
     requires synced { D.tells ≡ true → AreSynced (parts_of config.now) (D.device disk.old).region }
     ensures formats { D.tells ≡ true → IfOk result (λ opened. opened.1.items ≡ formats_of (D.device disk.old) config.now.circuits) }
     ensures ready { D.tells ≡ true → IfOk result (λ opened. AreReady (D.device disk.new).region opened.0) }
+    ensures found { IfOk result (λ opened. BeginsAsFound opened.0) }
     ensures all { IfOk result (λ opened. length opened.1.items ≡ length config.now.circuits) }
     ensures topology { IfOk result (λ opened. opened.0.topology ≡ topology_of config.now) }
     ensures large { IfOk result (λ opened. HasRegions (parts_of config.now) (D.device disk.new).count) }

@@ -99,6 +99,16 @@ impl Access {
         taken
     }
 
+    /// After a full slice the system is asked again at which sockets datagrams arrived: a frame that comes while others keep a pass
+    /// long is taken in this pass if its circuit is still ahead.
+    fn look_after(&mut self, frames: u32)
+        ensures { self.new ≡ self.old }
+    {
+        if frames == SLICE {
+            self.waiter.poll();
+        }
+    }
+
     /// Takes frames from circuits, from this one on, and has all of them answered. Returns the circuit after the last one that was
     /// tried, and how many datagrams were taken.
     fn slice(&mut self, proto: Proto, from: usize, now: Moment) -> (usize, u32)
@@ -112,6 +122,7 @@ impl Access {
         let (next, frames) = self.take_slice(proto, from);
         let datagrams = self.answer_all(now);
         let answers = self.empty_relays();
+        self.look_after(frames);
         (next, frames + datagrams + answers)
     }
 

@@ -8,7 +8,7 @@ use Rattle.lease_disk.specs.Region.{IsClean, Region}
 use Rattle.timers.specs.Deadlines.{deadline}
 use Rattle.circuit_server.specs.Deadlines.{OtherEntriesUnchanged, held_in}
 use Rattle.circuit_server.specs.Leases.{found_leases}
-use Rattle.circuit_server.specs.CircuitServerValue.{CircuitServerValue, HasItsPools}
+use Rattle.circuit_server.specs.CircuitServerValue.{CircuitServerValue, HasFoundBook, HasItsPools}
 use Rattle.dispatch.specs.ServerValue.{with_states}
 use Rattle.dispatch.proofs.RestartLemmas.{all_leases, all_ready, all_regions, none_up, one_more_up}
 use Rattle.dispatch.proofs.ServerLemmas.{all_found}
@@ -49,6 +49,7 @@ pub circuits-init : goal.circuits-init
 circuits-init g c = record {
   up = λ tells. none_up c.args.parts.now c.args.servers.now (g.D.Disk.device c.args.disk.now);
   pools = search rules;
+  found = search rules;
   count = refl;
   reads = omega arith;
   writes = omega arith;
@@ -77,6 +78,7 @@ circuits-preserved g c =
       up = λ tells. one_more_up g.D.Disk.tells tells parts c.requires.can.differ i part there states inside (g.D.Disk.device c.args.disk.now) (g.D.Disk.device c.circuits.disk) (g.D.Disk.device c.restart.new.disk) (loop.up tells)
           c.restart.ensures.frame c.restart.new.self (c.restart.ensures.restarted.leases tells) (c.restart.ensures.restarted.ready tells) (c.restart.ensures.restarted.region tells);
       pools = subst (λ ys. All HasItsPools (take (i + 1) ys)) (sym written) (more HasItsPools xs i new within loop.pools c.restart.ensures.pools);
+      found = subst (λ ys. All HasFoundBook (take (i + 1) ys)) (sym written) (more HasFoundBook xs i new within loop.found c.restart.ensures.found);
       count = c.restart.ensures.frame.count ∙ loop.count;
       reads = five_more _ _ _ i loop.reads c.restart.ensures.reads;
       writes = four_more _ _ _ i loop.writes c.restart.ensures.writes;
@@ -110,6 +112,7 @@ returns-clause-restarted g c =
     let whole : length parts ≤ c.circuits.index = omega (arith, c.circuits-test.false) in
     record {
       pools = subst (All HasItsPools) (take_all c.circuits.index xs (omega (arith, c.circuits-test.false, size_with parts states))) c.circuits.invariant.pools;
+      found = subst (All HasFoundBook) (take_all c.circuits.index xs (omega (arith, c.circuits-test.false, size_with parts states))) c.circuits.invariant.found;
       leases = λ tells.
           all_found now.region (found_leases first.region first.failing_call) xs (all_leases parts c.circuits.index states first now size whole (c.circuits.invariant.up tells))
           ∙ ap (map (found_leases first.region first.failing_call)) (parts_with parts states);

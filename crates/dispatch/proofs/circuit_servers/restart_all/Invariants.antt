@@ -1,6 +1,6 @@
 use Rattle.std.proofs.Common.{◌≡◌, ◌≤◌, ◌+◌, ◌*◌, true, take, length}
 use Rattle.std.specs.Prelude.{All}
-use Rattle.circuit_server.specs.CircuitServerValue.{HasItsPools}
+use Rattle.circuit_server.specs.CircuitServerValue.{HasFoundBook, HasItsPools}
 use Rattle.dispatch.specs.ServerValue.{with_states}
 use Rattle.dispatch.proofs.HeldDeadlines.{SetFirst}
 use Rattle.dispatch.proofs.RestartLemmas.{AreUp}
@@ -10,6 +10,7 @@ abbrev pub invariant-circuits : goal.invariant-circuits
 invariant-circuits g l = record {
   up : g.D.Disk.tells ≡ true → AreUp l.parts l.index l.servers (g.D.Disk.device l.fn.disk) (g.D.Disk.device l.disk);
   pools : All HasItsPools (take l.index (with_states l.parts l.servers));
+  found : All HasFoundBook (take l.index (with_states l.parts l.servers));
   count : (g.D.Disk.device l.disk).count ≡ (g.D.Disk.device l.fn.disk).count;
   reads : (g.D.Disk.device l.disk).reads ≤ (g.D.Disk.device l.fn.disk).reads + 5 * l.index;
   writes : (g.D.Disk.device l.disk).writes ≤ (g.D.Disk.device l.fn.disk).writes + 4 * l.index;

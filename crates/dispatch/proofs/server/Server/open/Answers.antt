@@ -73,3 +73,6 @@ returns-clause-deadlines g c = IfOk-weaker c.over.result _ _ (λ server opened. 
 
 pub returns-clause-count : goal.returns-clause-count
 returns-clause-count g c = c.over.ensures.device.count
+
+pub returns-clause-found : goal.returns-clause-found
+returns-clause-found g c = IfOk-weaker c.over.result _ _ (λ server opened. opened.found) c.over.ensures.opened

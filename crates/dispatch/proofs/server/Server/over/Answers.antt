@@ -34,6 +34,7 @@ returns-clause-opened g c =
       leases = λ tells. c.restart.ensures.leases tells ∙ ap (λ (t : Topology). map (found_leases old.region old.failing_call) t.circuits) c.in-Ok.ensures;
       ready = c.restart.ensures.ready;
       deadlines = c.restart.ensures.deadlines;
+      found = c.restart.ensures.found;
       large =
           subst (HasRegions c.args.circuits.circuits) (sym c.restart.ensures.count)
           (subst (λ ps. HasRegions ps old.count) parts (subst (HasRegions c.parts.result.now) c.regions.ensures (c.if-not-has_regions.ensures.yes refl)));

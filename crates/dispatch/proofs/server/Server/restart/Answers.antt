@@ -4,7 +4,7 @@ use Rattle.std.proofs.lemmas.List.{length-map}
 use Rattle.config.specs.CircuitPart.{CircuitPart}
 use Rattle.circuit_server.specs.Leases.{found_leases}
 use Rattle.circuit_server.specs.Ticked.{state_at}
-use Rattle.circuit_server.specs.CircuitServerValue.{HasItsPools, IsReady, OpenCircuitValue, leases_of}
+use Rattle.circuit_server.specs.CircuitServerValue.{HasFoundBook, HasItsPools, IsReady, OpenCircuitValue, leases_of}
 use Rattle.dispatch.specs.Deadlines.{AreSetAnew}
 use Rattle.dispatch.specs.Regions.{AreRegionsMigrated, AreSynced, KeepsOthers}
 use Rattle.dispatch.specs.Restarted.{CanRestart}
@@ -61,6 +61,11 @@ returns-clause-leases g c tells =
     ∙ c.restart_all.ensures.restarted.leases tells
     ∙ ap (map (found_leases old.region old.failing_call)) c.parts.ensures
     ∙ ap (λ (s : ServerValue). map (found_leases old.region old.failing_call) s.topology.circuits) c.self.view_is
+
+pub returns-clause-found : goal.returns-clause-found
+returns-clause-found g c =
+    subst (λ xs. All HasFoundBook (with_states c.self.inside.circuits.circuits xs)) (sym (shown g c))
+    (subst (λ ps. All HasFoundBook (with_states ps c.restart_all.new.servers)) c.parts.ensures c.restart_all.ensures.restarted.found)
 
 pub returns-clause-ready : goal.returns-clause-ready
 returns-clause-ready g c tells =
