@@ -7,7 +7,7 @@ ghost use Rattle.udp.specs.History.{Empty, IsWithin, Refused, Sent, attempt_entr
 ghost use Rattle.udp.specs.declared.datagram_socket.BindFault.TheVariants as fault;
 
 use crate::history::{Happened, History, Role};
-use crate::waiting::{UNWATCHED, Waiter};
+use crate::waiting::{Place, Waiter};
 use mio::net::UdpSocket;
 use std::io::ErrorKind;
 use std::marker::Model;
@@ -46,8 +46,8 @@ pub struct DatagramSocket {
     at: Source,
     /// Which history says what happens at it.
     history: u8,
-    /// The bit of the waiter that watches it.
-    pub(crate) bit: usize,
+    /// Which bit it has in the waiter that watches it.
+    pub(crate) place: Place,
 }
 
 impl Model for DatagramSocket {
@@ -100,7 +100,7 @@ impl DatagramSocket {
                 role,
                 at,
                 history: history.id(),
-                bit: UNWATCHED,
+                place: Place::unwatched(),
             }),
             Err(error) if error.kind() == ErrorKind::OutOfMemory => Err(BindFault::Memory),
             Err(_) => {
@@ -139,12 +139,13 @@ impl DatagramSocket {
 
     /// Whether none waits at a socket that is watched, as far as the system has told: it has told of no datagram since a receive
     /// found the socket empty.
+    #[inline]
     pub fn is_idle(&self, waiter: &Waiter, history: &mut History) -> bool
         ensures same { history.new.id ≡ history.old.id }
         ensures idle { result ≡ true → history.new.entries ≡ with_entry (Empty self.now.role) history.old.entries }
         ensures unknown { result ≡ false → history.new ≡ history.old }
     {
-        let is_idle = !waiter.is_ready(self.bit);
+        let is_idle = !waiter.is_ready(self.place);
         if is_idle {
             history.add(&Happened::Empty(self.role));
         }
@@ -152,6 +153,7 @@ impl DatagramSocket {
     }
 
     /// Whether none waits at this socket and none at the other, as far as the system has told.
+    #[inline]
     pub fn is_idle_with(
         &self,
         other: &DatagramSocket,
@@ -164,7 +166,7 @@ impl DatagramSocket {
             ≡ with_entry (Empty other.now.role) (with_entry (Empty self.now.role) history.old.entries) }
         ensures unknown { result ≡ false → history.new ≡ history.old }
     {
-        let are_idle = !waiter.is_ready(self.bit) && !waiter.is_ready(other.bit);
+        let are_idle = !waiter.is_ready(self.place) && !waiter.is_ready(other.place);
         if are_idle {
             history.add(&Happened::Empty(self.role));
             history.add(&Happened::Empty(other.role));
@@ -174,6 +176,7 @@ impl DatagramSocket {
 
     /// Takes a datagram from a socket that is watched. If the system has told of no datagram since a receive found the socket
     /// empty, none waits, and it isn't asked again.
+    #[inline(always)]
     pub fn take_if_ready(
         &self,
         buffer: &mut [u8; BUFFER_LEN],
@@ -188,9 +191,26 @@ impl DatagramSocket {
         if self.is_idle(waiter, history) {
             return Attempt::Empty;
         }
+        self.take_and_tell(buffer, waiter, history)
+    }
+
+    /// Takes a datagram, and tells the waiter if there is none. It is no part of its caller's code, which mostly has nothing to
+    /// take.
+    #[inline(never)]
+    fn take_and_tell(
+        &self,
+        buffer: &mut [u8; BUFFER_LEN],
+        waiter: &mut Waiter,
+        history: &mut History,
+    ) -> Attempt
+        requires { history.old.id ≡ self.now.history }
+        ensures same { history.new.id ≡ history.old.id }
+        ensures len { IsWithin 1281 result }
+        ensures entries { history.new.entries ≡ with_entry (attempt_entry self.now.role buffer.new result) history.old.entries }
+    {
         let attempt = self.take(buffer, history);
         if attempt == Attempt::Empty {
-            waiter.found_empty(self.bit);
+            waiter.found_empty(self.place);
         }
         attempt
     }

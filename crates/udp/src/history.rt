@@ -62,6 +62,7 @@ impl Entries {
     }
 
     /// These, and what this adds.
+    #[inline(always)]
     fn then(&self, what: &Happened<'_>) -> Entries
         ensures { result.list ≡ self.now.list ++ entries_of what.now }
     {
@@ -106,6 +107,7 @@ impl History {
     }
 
     /// This happened as well: whoever adds it has seen it happen.
+    #[inline(always)]
     pub(crate) fn add(&mut self, what: &Happened<'_>)
         ensures entries { self.new.entries ≡ self.old.entries ++ entries_of what.now }
         ensures same { self.new.id ≡ self.old.id }
@@ -114,6 +116,7 @@ impl History {
     }
 
     /// Nothing waited at the sockets of this protocol of so many circuits either, from this index on.
+    #[inline(always)]
     pub(crate) fn add_idle(&mut self, proto: Proto, from: usize, count: usize)
         ensures entries { self.new.entries ≡ self.old.entries ++ idle_circuits proto from count }
         ensures same { self.new.id ≡ self.old.id }

@@ -1,5 +1,6 @@
 //! Which sockets a datagram may wait at, by what the system tells, and waiting for one.
-ghost use Rattle.std.specs.Prelude.{◌≡◌, ◌≤◌, ◌<◌, ◌-◌, ◌^◌, ◌++◌};
+ghost use Rattle.std.specs.Int.{bit_at};
+ghost use Rattle.std.specs.Prelude.{◌≡◌, ℕ, ◌≤◌, ◌<◌, ◌-◌, ◌++◌};
 ghost use Rattle.udp.specs.History.{idle_circuits};
 
 use crate::datagram_socket::DatagramSocket;
@@ -15,8 +16,33 @@ use types::{MAX_RELAYS, Proto};
 /// How many sockets a word has a bit for.
 const WORD: usize = 64;
 
-/// The bit of a socket that is not watched. No word has it, so that the socket is always asked.
-pub(crate) const UNWATCHED: usize = usize::MAX;
+/// How many rows of words there are: of the circuits' DHCPv4 sockets, of their DHCPv6 sockets, and of the others.
+const ROWS: usize = 3;
+
+/// Where the bit of a socket is: its word, and the word in which it alone is set. Nothing is divided to read or to set it.
+#[derive(Clone, Copy)]
+pub(crate) struct Place {
+    word: usize,
+    mask: u64,
+}
+
+impl Place {
+    /// The place of a socket that is not watched. No waiter has that word, so that the socket is always asked.
+    pub(crate) fn unwatched() -> Place {
+        Place {
+            word: usize::MAX,
+            mask: 0,
+        }
+    }
+
+    /// The place of this bit.
+    fn of(bit: usize) -> Place {
+        Place {
+            word: bit / WORD,
+            mask: 1 << (bit % WORD),
+        }
+    }
+}
 
 /// What the system tells of the sockets that it watches. It takes no memory after it was made.
 ///
@@ -27,51 +53,58 @@ pub struct Waiter {
     /// None where the system does not tell of a socket: then any may have a datagram, and waiting is sleeping.
     poll: Option<Poll>,
     events: Events<Global>,
-    /// How many bits the circuits have for each protocol, in whole words.
-    room: u16,
-    /// Which sockets may have a datagram, a bit each: most have none. The DHCPv4 sockets of the circuits come first, then
-    /// their DHCPv6 sockets, and in the last word those of the server and the relays.
+    /// Which sockets may have a datagram, a bit each: most have none. Word 3n + r is word n of row r.
     ready: Vec<u64>,
 }
 
-/// What a bit is within its word.
+/// The row of the circuits' sockets of a protocol.
 #[inline]
-fn mask_of(bit: usize) -> u64 {
-    1 << (bit % WORD)
+fn row_of(proto: Proto) -> usize
+    ensures { result < 3 }
+{
+    match proto {
+        Proto::V4 => 0,
+        Proto::V6 => 1,
+    }
 }
 
-/// Whether this bit is set, or no word has it.
-#[inline]
-fn is_set(words: &[u64], bit: usize) -> bool {
-    match words.get(bit / WORD) {
-        Some(word) => word & mask_of(bit) != 0,
-        None => true,
-    }
+/// The bit of the socket with this role.
+fn bit_of(role: &Role) -> usize {
+    let (row, index) = match role {
+        Role::Circuit(circuit, proto) => (row_of(*proto), circuit.index()),
+        Role::Server(Proto::V4) => (2, 0),
+        Role::Server(Proto::V6) => (2, 1),
+        Role::Relay(relay) => (2, 2 + relay.index()),
+    };
+    WORD * (ROWS * (index / WORD) + row) + index % WORD
 }
 
 /// Sets this bit, if a word has it.
 #[inline]
-fn set(words: &mut [u64], bit: usize) {
-    if let Some(word) = words.get_mut(bit / WORD) {
-        *word |= mask_of(bit);
+fn set(words: &mut [u64], place: Place) {
+    if place.word < words.len() {
+        words[place.word] |= place.mask;
     }
 }
 
-/// The first bit from this one on that is set; the first bit of the word `end` if none before that is.
-fn first_set(words: &[u64], from: usize, end: usize) -> usize {
-    let mut mask = u64::MAX << (from % WORD);
-    'words: for number in from / WORD..end {
-        let Some(word) = words.get(number) else {
-            break;
-        };
-        let bits = word & mask;
-        if bits != 0 {
-            let place = bits.trailing_zeros() as usize;
-            return number.saturating_mul(WORD).saturating_add(place);
-        }
-        mask = u64::MAX;
+/// Takes this bit away, if a word has it.
+#[inline]
+fn clear(words: &mut [u64], place: Place) {
+    if place.word < words.len() {
+        words[place.word] &= !place.mask;
     }
-    end.saturating_mul(WORD)
+}
+
+/// The first bit of a word from this one on that is set; 64 if none is.
+#[inline]
+fn first_set(word: u64, from: usize) -> usize
+    requires { from < 64 }
+    ensures bound { result ≤ 64 }
+    ensures from { from ≤ result }
+    ensures unset { (i : ℕ) → from ≤ i → i < result → bit_at word i ≡ 0 }
+{
+    let bits = word & (u64::MAX << from);
+    bits.trailing_zeros() as usize
 }
 
 impl Waiter {
@@ -80,47 +113,20 @@ impl Waiter {
     pub fn new<R: Net>(net: &R, alloc: Global, circuits: usize) -> Result<Waiter, AllocError>
         requires { circuits ≤ 1024 }
     {
-        let words = circuits.div_ceil(WORD);
+        let words = ROWS * circuits.div_ceil(WORD).max(1);
         Ok(Waiter {
             poll: Poll::new(net).ok(),
             events: Events::with_capacity(alloc, 2 * circuits + 2 + MAX_RELAYS)?,
-            room: (WORD * words) as u16,
-            ready: Vec::from_elem(alloc, u64::MAX, 2 * words + 1)?,
+            ready: Vec::from_elem(alloc, u64::MAX, words)?,
         })
-    }
-
-    /// The first bit of the circuits' sockets of a protocol.
-    #[inline]
-    fn first_of(&self, proto: Proto) -> usize
-        ensures { result < 2 ^ 16 }
-    {
-        match proto {
-            Proto::V4 => 0,
-            Proto::V6 => usize::from(self.room),
-        }
-    }
-
-    /// The bit of the socket with this role.
-    fn bit_of(&self, role: &Role) -> usize {
-        let room = usize::from(self.room);
-        let others = 2 * room;
-        match role {
-            Role::Circuit(circuit, proto) if circuit.index() < room => {
-                self.first_of(*proto) + circuit.index()
-            }
-            Role::Circuit(_, _) => UNWATCHED,
-            Role::Server(Proto::V4) => others,
-            Role::Server(Proto::V6) => others + 1,
-            Role::Relay(relay) => others + 2 + relay.index(),
-        }
     }
 
     /// Watches a socket as well.
     pub fn watch(&mut self, socket: &mut DatagramSocket)
         ensures { socket.new ≡ socket.old }
     {
-        let bit = self.bit_of(&socket.role);
-        socket.bit = bit;
+        let bit = bit_of(&socket.role);
+        socket.place = Place::of(bit);
         let Some(poll) = &self.poll else {
             return;
         };
@@ -138,10 +144,13 @@ impl Waiter {
         self.ready.fill(u64::MAX);
     }
 
-    /// Whether the socket of this bit may have a datagram.
-    #[inline]
-    pub(crate) fn is_ready(&self, bit: usize) -> bool {
-        is_set(&self.ready, bit)
+    /// Whether the socket of this place may have a datagram.
+    #[inline(always)]
+    pub(crate) fn is_ready(&self, place: Place) -> bool {
+        match self.ready.get(place.word) {
+            Some(word) => word & place.mask != 0,
+            None => true,
+        }
     }
 
     /// Passes over the circuits from `from` on at whose socket of this protocol no datagram waits, as far as the system has
@@ -164,24 +173,31 @@ impl Waiter {
         ensures from { from ≤ result }
         ensures end { result ≤ end }
     {
-        let first = self.first_of(proto);
-        let beyond = first + usize::from(self.room);
-        let set = first_set(&self.ready, first.saturating_add(from), beyond / WORD);
-        set.saturating_sub(first).max(from).min(end)
+        let row = row_of(proto);
+        let mut next = from;
+        'words: while next < end {
+            let Some(word) = self.ready.get(ROWS * (next / WORD) + row) else {
+                return next;
+            };
+            let first = first_set(*word, next % WORD);
+            next = (next - next % WORD).saturating_add(first);
+            if first < WORD {
+                return next.min(end);
+            }
+        }
+        end
     }
 
     /// A datagram was sent to this socket: it may have one now, whether or not the system has told of it.
+    #[inline]
     pub fn mark_ready(&mut self, socket: &DatagramSocket) {
-        set(&mut self.ready, socket.bit);
+        set(&mut self.ready, socket.place);
     }
 
-    /// A receive found the socket of this bit empty.
-    pub(crate) fn found_empty(&mut self, bit: usize) {
-        if self.poll.is_none() {
-            return;
-        }
-        if let Some(word) = self.ready.get_mut(bit / WORD) {
-            *word &= !mask_of(bit);
+    /// A receive found the socket of this place empty.
+    pub(crate) fn found_empty(&mut self, place: Place) {
+        if self.poll.is_some() {
+            clear(&mut self.ready, place);
         }
     }
 
@@ -196,7 +212,7 @@ impl Waiter {
         }
         'events: for event in self.events.iter() {
             let Token(bit) = event.token();
-            set(&mut self.ready, bit);
+            set(&mut self.ready, Place::of(bit));
         }
         true
     }
