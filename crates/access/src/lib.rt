@@ -14,5 +14,5 @@ pub use clock::moment_of;
 pub use counts::{CircuitCounts, Counts, Fate, REASONS};
 pub use opening::{DeviceFault, device_of};
 pub use options::ServeOptions;
-pub use sockets::{Warning, warn};
+pub use sockets::{Warning, clients_address, warn};
 pub use udp::History;

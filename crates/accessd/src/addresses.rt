@@ -1,7 +1,7 @@
 //! What is wrong with the addresses of the server and the relays.
 ghost use Rattle.std.specs.Prelude.{◌≤◌, ◌+◌, ◌*◌, length};
 
-use access::{Warning, warn};
+use access::warn;
 use config::Config;
 use types::{Addr4, RelayNo, Source};
 
@@ -26,33 +26,4 @@ pub fn report_addresses(rt: &HostRuntime, config: &Config, port: u16)
         let source = config.relay(RelayNo::at(index)).source;
         report_address(rt, config, port, source);
     }
-}
-
-/// Whether frames towards the clients of a circuit go to this address.
-fn is_clients(config: &Config, port: u16, at: Source) -> bool
-    requires ports { port + 4 * length config.now.circuits ≤ 65536 }
-{
-    matches!(
-        warn(at, port, config.circuit_count()),
-        Some(Warning::Clients(_))
-    )
-}
-
-/// The first address of the server or of a relay to which frames towards the clients of a circuit go, if there is one.
-pub fn clients_address(config: &Config, port: u16) -> Option<Source>
-    requires ports { port + 4 * length config.now.circuits ≤ 65536 }
-{
-    let server = config.server();
-    for at in [server.listen4, server.listen6] {
-        if is_clients(config, port, at) {
-            return Some(at);
-        }
-    }
-    for index in 0..config.relay_count() {
-        let at = config.relay(RelayNo::at(index)).source;
-        if is_clients(config, port, at) {
-            return Some(at);
-        }
-    }
-    None
 }

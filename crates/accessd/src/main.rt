@@ -14,13 +14,16 @@ mod serving;
 mod text;
 mod words;
 
-use crate::addresses::{clients_address, report_addresses};
+use crate::addresses::report_addresses;
 use crate::open_files::too_many_files;
 use crate::reporter::Reporter;
 use crate::serving::Serving;
 use crate::text::{circuit_at, id_of, text_of};
 use crate::words::AccessWords;
-use access::{Access, AccessFault, DeviceFault, History, ServeOptions, device_of, try_sockets};
+use access::{
+    Access, AccessFault, DeviceFault, History, ServeOptions, clients_address, device_of,
+    try_sockets,
+};
 use command_line::{
     REFUSED, StandardStreams, UNOPENED, UNREADABLE, complain, complain_of, given_words,
     read_configuration, socket_cause, writing_cause,
@@ -217,7 +220,7 @@ fn refuse(rt: &HostRuntime, config: &Config, values: &AccessWords<'_>, fault: Ac
     }
 }
 
-/// Whether the service can have its ports: each circuit has four, and frames towards clients go to no address of the server or of
+/// Whether the service can have its ports: each circuit has four, and frames towards clients reach no address of the server or of
 /// a relay. An error is the status.
 fn may_serve(rt: &HostRuntime, config: &Config, values: &AccessWords<'_>) -> Result<(), u8>
     ensures status { IfErr result (λ status. status ≡ 2) }

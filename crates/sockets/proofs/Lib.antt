@@ -1,3 +1,4 @@
 pub mod RefusedLemmas
 pub mod RelayLemmas
+pub mod ServiceAddressLemmas
 pub mod WarningLemmas

@@ -7,4 +7,4 @@ mod warnings;
 
 pub use frame::{proto_of, put_front};
 pub use sockets::{CircuitSockets, SocketFault, Sockets, client};
-pub use warnings::{Warning, warn};
+pub use warnings::{Warning, clients_address, warn};

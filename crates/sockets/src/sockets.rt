@@ -14,10 +14,10 @@ use types::{Addr4, Circuit, Proto, RelayNo, Source};
 use udp::{BindFault, DatagramSocket, History, Role, Waiter};
 
 /// Ports of one circuit: two where it listens, and two where its frames go.
-const PORTS: u16 = 4;
+pub(crate) const PORTS: u16 = 4;
 
 /// The address of every circuit's ports.
-const LOOPBACK: Addr4 = Addr4([127, 0, 0, 1]);
+pub(crate) const LOOPBACK: Addr4 = Addr4([127, 0, 0, 1]);
 
 /// Why the sockets were not opened.
 #[derive(Clone, Copy, Debug, PartialEq, Eq, Error)]

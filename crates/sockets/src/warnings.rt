@@ -1,10 +1,12 @@
 //! Addresses that the system accepts, though they serve nobody, or too many.
-ghost use Rattle.std.specs.Prelude.{◌≡◌, ◌≤◌, ◌+◌, ◌*◌, IfSome, IfNone};
-ghost use Rattle.sockets.specs.Warnings.{IsClients, IsNoClients, IsWarned, is_group};
+ghost use Rattle.std.specs.Prelude.{◌≡◌, ◌≤◌, ◌<◌, ◌+◌, ◌*◌, IfSome, IfNone, Some, length, slice_get, true, false};
+ghost use Rattle.sockets.specs.Warnings.{IsClients, IsNoClients, IsWarned, ReceivesSomeClients, addresses_of, is_group};
+ghost use Rattle.sockets.specs.Warnings.{HasNoClientsAddress, IsFirstClientsAddress};
 
-use crate::sockets::client;
+use crate::sockets::{LOOPBACK, PORTS, client};
+use config::Config;
 use thiserror::Error;
-use types::{Addr4, Circuit, Proto, Source};
+use types::{Addr4, Circuit, Proto, RelayNo, Source};
 
 /// What is wrong with an address of the server or of a relay.
 #[derive(Clone, Copy, Debug, PartialEq, Eq, Error)]
@@ -56,4 +58,46 @@ pub fn warn(at: Source, port: u16, circuits: usize) -> Option<Warning>
         return Some(Warning::Group);
     }
     clients_at(at, port, circuits).map(Warning::Clients)
+}
+
+/// Whether frames towards the clients of a circuit reach this address, where so many circuits have their ports from `port` on.
+fn receives_clients(at: Source, port: u16, circuits: usize) -> bool
+    requires ports { port + 4 * circuits ≤ 65536 }
+    ensures some { result ≡ true → ReceivesSomeClients port circuits at }
+    ensures none { result ≡ false → ¬ ReceivesSomeClients port circuits at }
+{
+    if at.port < port || (at.addr != LOOPBACK && !at.addr.is_unspecified()) {
+        return false;
+    }
+    let (place, ports) = (usize::from(at.port - port), usize::from(PORTS));
+    place < ports * circuits && place % ports >= 2
+}
+
+/// The address at this place among those of the server and the relays.
+fn address_at(config: &Config, place: usize) -> Source
+    requires within { place < 2 + length config.now.relays }
+    ensures { slice_get (addresses_of config.now) place ≡ Some result }
+{
+    let server = config.server();
+    match place {
+        0 => server.listen4,
+        1 => server.listen6,
+        _ => config.relay(RelayNo::at(place - 2)).source,
+    }
+}
+
+/// The first address of the server or of a relay that frames towards the clients of a circuit reach.
+pub fn clients_address(config: &Config, port: u16) -> Option<Source>
+    requires ports { port + 4 * length config.now.circuits ≤ 65536 }
+    ensures some { IfSome result (IsFirstClientsAddress config.now port) }
+    ensures none { IfNone result (HasNoClientsAddress config.now port) }
+{
+    let circuits = config.circuit_count();
+    'places: for place in 0..2 + config.relay_count() {
+        let at = address_at(config, place);
+        if receives_clients(at, port, circuits) {
+            return Some(at);
+        }
+    }
+    None
 }
