@@ -1,4 +1,4 @@
-use Rattle.std.proofs.Common.{inl, inr, ◌≡◌, ◌∙◌, ◌+◌, ◌<◌, ◌≤◌, ℕ, refl, subst, length, arith}
+use Rattle.std.proofs.Common.{inl, inr, ◌≡◌, ◌∙◌, ◌+◌, ◌<◌, ◌≤◌, ℕ, refl, sym, subst, length, arith}
 use Rattle.std.specs.Prelude.{◌⊎◌}
 use Rattle.config.specs.Topology.{Topology}
 use Rattle.access.specs.Access.{HasCarried}
@@ -26,8 +26,9 @@ returns-clause-slice c =
         answers = answers.result;
         from_circuits = taken;
         at_server = datagrams.ensures.answered;
-        from_relays = subst (λ (t : Topology). HasCarried (RelaysEmptied t c.args.self.now.port) answers.result datagrams.new.self answers.new.self) topology
-            (subst (λ p. HasCarried (RelaysEmptied datagrams.new.self.topology p) answers.result datagrams.new.self answers.new.self) port answers.ensures.carried);
+        from_relays = subst (HasCarried (RelaysEmptied c.args.self.now.topology c.args.self.now.port) answers.result datagrams.new.self) (sym c.look_after.ensures)
+            (subst (λ (t : Topology). HasCarried (RelaysEmptied t c.args.self.now.port) answers.result datagrams.new.self answers.new.self) topology
+            (subst (λ p. HasCarried (RelaysEmptied datagrams.new.self.topology p) answers.result datagrams.new.self answers.new.self) port answers.ensures.carried));
         count_is = refl;
       },
     )
