@@ -34,6 +34,9 @@ is_set words bit = bit_at (slice_index_or words (bit / 64) (2 ^ 64 - 1)) (bit % 
 abbrev pub is_told : List ℕ → Role → Bool
 is_told words role = is_set words (bit_of role)
 
+abbrev pub AllAreTold : List ℕ → Type 0
+AllAreTold words = (role : Role) → is_told words role ≡ true
+
 -- Each socket that was told of still is.
 abbrev pub AllStayTold : List ℕ → List ℕ → Type 0
 AllStayTold old new = (role : Role) → is_told old role ≡ true → is_told new role ≡ true

@@ -1,9 +1,8 @@
 //! Which sockets a datagram may wait at, by what the system tells, and waiting for one.
 ghost use Rattle.std.specs.Int.{bit_at};
-ghost use Rattle.std.specs.Prelude.{◌≡◌, ◌≢◌, ℕ, ◌≤◌, ◌<◌, ◌-◌, ◌++◌};
-ghost use Rattle.std.specs.Prelude.{true, false};
+ghost use Rattle.std.specs.Prelude.{◌≡◌, ◌≢◌, ℕ, ◌≤◌, ◌<◌, ◌-◌, ◌++◌, IfOk, true, false};
 ghost use Rattle.udp.specs.History.{idle_circuits};
-ghost use Rattle.udp.specs.Waiting.{AllStayTold, IsPlace, OthersStay, bit_in, bit_of, is_set, is_told, row_of};
+ghost use Rattle.udp.specs.Waiting.{AllAreTold, AllStayTold, IsPlace, OthersStay, bit_in, bit_of, is_set, is_told, row_of};
 ghost use Rattle.udp.specs.declared.history.Role.{Role};
 ghost use Rattle.udp.specs.declared.history.Role.TheVariants as role;
 
@@ -152,6 +151,7 @@ impl Waiter {
     /// where there is none for that.
     pub fn new<R: Net>(net: &R, alloc: Global, circuits: usize) -> Result<Waiter, AllocError>
         requires { circuits ≤ 1024 }
+        ensures { IfOk result (λ waiter. AllAreTold waiter) }
     {
         let words = ROWS * circuits.div_ceil(WORD).max(1);
         Ok(Waiter {
@@ -181,7 +181,7 @@ impl Waiter {
 
     /// The system tells of the sockets no longer.
     fn stop_polling(&mut self)
-        ensures { (bit : ℕ) → is_set self.new bit ≡ true }
+        ensures { AllAreTold self.new }
     {
         self.poll = None;
         self.ready.fill(u64::MAX);
