@@ -1,9 +1,11 @@
 //! A UDP socket that never waits. What the system does with it is in three functions, `bind`, `take` and `send`, and each
 //! says in the history what it did; `take_if_ready` says that nothing waited where the system has told of nothing.
-ghost use Rattle.std.specs.Prelude.{◌≡◌, Err, IfOk, IfSome, IfNone, true, false};
+ghost use Rattle.std.specs.Prelude.{◌≡◌, ◌≢◌, ◌&&◌, not, Err, IfOk, IfSome, IfNone, true, false};
 ghost use Rattle.types.specs.declared.addr.Source.{Source};
 ghost use Rattle.udp.specs.Address.{IsSystemForm};
 ghost use Rattle.udp.specs.History.{Empty, IsWithin, Refused, Sent, attempt_entry, with_entry};
+ghost use Rattle.udp.specs.Waiting.{OthersStay, is_told};
+ghost use Rattle.udp.specs.declared.datagram_socket.Attempt.TheVariants as attempt;
 ghost use Rattle.udp.specs.declared.datagram_socket.BindFault.TheVariants as fault;
 
 use crate::history::{Happened, History, Role};
@@ -46,16 +48,21 @@ pub struct DatagramSocket {
     at: Source,
     /// Which history says what happens at it.
     history: u8,
-    /// Which bit it has in the waiter that watches it.
+    /// Which bit it has in a waiter.
     pub(crate) place: Place,
+    /// Whether a waiter watches it. The bit of one that is not watched stays set, so that it is always asked.
+    pub(crate) is_watched: bool,
 }
 
 impl Model for DatagramSocket {
     ghost use Rattle.udp.specs.Socket.{SocketValue};
+    ghost use Rattle.udp.specs.Waiting.{IsPlace, bit_of};
 
     ghost Value = { SocketValue };
 
     ghost view = { λ s. record { role = s.role; at = s.at; history = s.history } };
+
+    ghost invariant = { λ s. IsPlace (bit_of s.role) s.place };
 }
 
 /// The system's form of an address and port.
@@ -100,7 +107,8 @@ impl DatagramSocket {
                 role,
                 at,
                 history: history.id(),
-                place: Place::unwatched(),
+                place: Place::of_role(&role),
+                is_watched: false,
             }),
             Err(error) if error.kind() == ErrorKind::OutOfMemory => Err(BindFault::Memory),
             Err(_) => {
@@ -144,6 +152,7 @@ impl DatagramSocket {
         ensures same { history.new.id ≡ history.old.id }
         ensures idle { result ≡ true → history.new.entries ≡ with_entry (Empty self.now.role) history.old.entries }
         ensures unknown { result ≡ false → history.new ≡ history.old }
+        ensures told { result ≡ not (is_told waiter.now self.now.role) }
     {
         let is_idle = !waiter.is_ready(self.place);
         if is_idle {
@@ -165,6 +174,7 @@ impl DatagramSocket {
             → history.new.entries
             ≡ with_entry (Empty other.now.role) (with_entry (Empty self.now.role) history.old.entries) }
         ensures unknown { result ≡ false → history.new ≡ history.old }
+        ensures told { result ≡ (not (is_told waiter.now self.now.role) && not (is_told waiter.now other.now.role)) }
     {
         let are_idle = !waiter.is_ready(self.place) && !waiter.is_ready(other.place);
         if are_idle {
@@ -187,6 +197,8 @@ impl DatagramSocket {
         ensures same { history.new.id ≡ history.old.id }
         ensures len { IsWithin 1281 result }
         ensures entries { history.new.entries ≡ with_entry (attempt_entry self.now.role buffer.new result) history.old.entries }
+        ensures kept { result ≢ attempt.Empty → waiter.new ≡ waiter.old }
+        ensures others { OthersStay self.now.role waiter.old waiter.new }
     {
         if self.is_idle(waiter, history) {
             return Attempt::Empty;
@@ -207,9 +219,11 @@ impl DatagramSocket {
         ensures same { history.new.id ≡ history.old.id }
         ensures len { IsWithin 1281 result }
         ensures entries { history.new.entries ≡ with_entry (attempt_entry self.now.role buffer.new result) history.old.entries }
+        ensures kept { result ≢ attempt.Empty → waiter.new ≡ waiter.old }
+        ensures others { OthersStay self.now.role waiter.old waiter.new }
     {
         let attempt = self.take(buffer, history);
-        if attempt == Attempt::Empty {
+        if attempt == Attempt::Empty && self.is_watched {
             waiter.found_empty(self.place);
         }
         attempt

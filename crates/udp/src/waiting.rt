@@ -1,12 +1,16 @@
 //! Which sockets a datagram may wait at, by what the system tells, and waiting for one.
 ghost use Rattle.std.specs.Int.{bit_at};
-ghost use Rattle.std.specs.Prelude.{◌≡◌, ℕ, ◌≤◌, ◌<◌, ◌-◌, ◌++◌};
+ghost use Rattle.std.specs.Prelude.{◌≡◌, ◌≢◌, ℕ, ◌≤◌, ◌<◌, ◌-◌, ◌++◌, IfOk, true, false};
 ghost use Rattle.udp.specs.History.{idle_circuits};
+ghost use Rattle.udp.specs.Waiting.{AllAreTold, AllStayTold, IsPlace, OthersStay, bit_in, bit_of, is_set, is_told, row_of};
+ghost use Rattle.udp.specs.declared.history.Role.{Role};
+ghost use Rattle.udp.specs.declared.history.Role.TheVariants as role;
 
 use crate::datagram_socket::DatagramSocket;
 use crate::history::{History, Role};
 use mio::{Events, Interest, Poll, Token};
 use std::alloc::{AllocError, Global};
+use std::marker::Model;
 use std::net::Net;
 use std::rt::Clock;
 use std::thread;
@@ -27,20 +31,21 @@ pub(crate) struct Place {
 }
 
 impl Place {
-    /// The place of a socket that is not watched. No waiter has that word, so that the socket is always asked.
-    pub(crate) fn unwatched() -> Place {
-        Place {
-            word: usize::MAX,
-            mask: 0,
-        }
-    }
-
     /// The place of this bit.
-    fn of(bit: usize) -> Place {
+    fn of(bit: usize) -> Place
+        ensures { IsPlace bit result }
+    {
         Place {
             word: bit / WORD,
             mask: 1 << (bit % WORD),
         }
+    }
+
+    /// The place of the socket with this role.
+    pub(crate) fn of_role(role: &Role) -> Place
+        ensures { IsPlace (bit_of role.now) result }
+    {
+        Place::of(role_bit(role))
     }
 }
 
@@ -57,10 +62,19 @@ pub struct Waiter {
     ready: Vec<u64>,
 }
 
+impl Model for Waiter {
+    ghost use Rattle.std.specs.Prelude.{ℕ, List};
+
+    ghost Value = { List ℕ };
+
+    ghost view = { λ w. w.ready.items };
+}
+
 /// The row of the circuits' sockets of a protocol.
 #[inline]
-fn row_of(proto: Proto) -> usize
-    ensures { result < 3 }
+fn proto_row(proto: Proto) -> usize
+    ensures row { (c : ℕ) → result ≡ row_of (role.Circuit c proto) }
+    ensures within { result < 3 }
 {
     match proto {
         Proto::V4 => 0,
@@ -68,28 +82,53 @@ fn row_of(proto: Proto) -> usize
     }
 }
 
-/// The bit of the socket with this role.
-fn bit_of(role: &Role) -> usize {
-    let (row, index) = match role {
-        Role::Circuit(circuit, proto) => (row_of(*proto), circuit.index()),
-        Role::Server(Proto::V4) => (2, 0),
-        Role::Server(Proto::V6) => (2, 1),
-        Role::Relay(relay) => (2, 2 + relay.index()),
-    };
+/// The bit with this number of a row.
+fn row_bit(row: usize, index: usize) -> usize
+    requires row { row < 3 }
+    requires index { index < 1024 }
+    ensures { result ≡ bit_in row index }
+{
     WORD * (ROWS * (index / WORD) + row) + index % WORD
+}
+
+/// The bit of the socket with this role.
+fn role_bit(role: &Role) -> usize
+    ensures { result ≡ bit_of role.now }
+{
+    match role {
+        Role::Circuit(circuit, proto) => row_bit(proto_row(*proto), circuit.index()),
+        Role::Server(Proto::V4) => row_bit(2, 0),
+        Role::Server(Proto::V6) => row_bit(2, 1),
+        Role::Relay(relay) => row_bit(2, 2 + relay.index()),
+    }
 }
 
 /// Sets this bit, if a word has it.
 #[inline]
-fn set(words: &mut [u64], place: Place) {
+fn set(words: &mut [u64], place: Place)
+    ensures set { (bit : ℕ) → IsPlace bit place → is_set words.new bit ≡ true }
+    ensures stay { (bit : ℕ) → is_set words.old bit ≡ true → is_set words.new bit ≡ true }
+{
     if place.word < words.len() {
         words[place.word] |= place.mask;
     }
 }
 
+/// Sets the bits that the system tells of.
+fn set_all(words: &mut [u64], events: &Events<Global>)
+    ensures { (bit : ℕ) → is_set words.old bit ≡ true → is_set words.new bit ≡ true }
+{
+    'events: for event in events.iter() {
+        let Token(bit) = event.token();
+        set(words, Place::of(bit));
+    }
+}
+
 /// Takes this bit away, if a word has it.
 #[inline]
-fn clear(words: &mut [u64], place: Place) {
+fn clear(words: &mut [u64], place: Place)
+    ensures { (bit other : ℕ) → IsPlace bit place → other ≢ bit → is_set words.new other ≡ is_set words.old other }
+{
     if place.word < words.len() {
         words[place.word] &= !place.mask;
     }
@@ -112,6 +151,7 @@ impl Waiter {
     /// where there is none for that.
     pub fn new<R: Net>(net: &R, alloc: Global, circuits: usize) -> Result<Waiter, AllocError>
         requires { circuits ≤ 1024 }
+        ensures { IfOk result (λ waiter. AllAreTold waiter) }
     {
         let words = ROWS * circuits.div_ceil(WORD).max(1);
         Ok(Waiter {
@@ -123,30 +163,35 @@ impl Waiter {
 
     /// Watches a socket as well.
     pub fn watch(&mut self, socket: &mut DatagramSocket)
-        ensures { socket.new ≡ socket.old }
+        ensures socket { socket.new ≡ socket.old }
+        ensures told { AllStayTold self.old self.new }
     {
-        let bit = bit_of(&socket.role);
-        socket.place = Place::of(bit);
         let Some(poll) = &self.poll else {
             return;
         };
+        let bit = role_bit(&socket.role);
         let watched = poll
             .registry()
             .register(&mut socket.socket, Token(bit), Interest::READABLE);
+        socket.is_watched = watched.is_ok();
         if watched.is_err() {
             self.stop_polling();
         }
     }
 
     /// The system tells of the sockets no longer.
-    fn stop_polling(&mut self) {
+    fn stop_polling(&mut self)
+        ensures { AllAreTold self.new }
+    {
         self.poll = None;
         self.ready.fill(u64::MAX);
     }
 
     /// Whether the socket of this place may have a datagram.
     #[inline(always)]
-    pub(crate) fn is_ready(&self, place: Place) -> bool {
+    pub(crate) fn is_ready(&self, place: Place) -> bool
+        ensures { (bit : ℕ) → IsPlace bit place → result ≡ is_set self.now bit }
+    {
         match self.ready.get(place.word) {
             Some(word) => word & place.mask != 0,
             None => true,
@@ -159,6 +204,7 @@ impl Waiter {
         requires { from ≤ end }
         ensures from { from ≤ result }
         ensures end { result ≤ end }
+        ensures passed { (c : ℕ) → from ≤ c → c < result → is_told self.now (role.Circuit c proto) ≡ false }
         ensures idle { history.new.entries ≡ history.old.entries ++ idle_circuits proto from (result - from) }
         ensures same { history.new.id ≡ history.old.id }
     {
@@ -172,8 +218,9 @@ impl Waiter {
         requires { from ≤ end }
         ensures from { from ≤ result }
         ensures end { result ≤ end }
+        ensures passed { (c : ℕ) → from ≤ c → c < result → is_told self.now (role.Circuit c proto) ≡ false }
     {
-        let row = row_of(proto);
+        let row = proto_row(proto);
         let mut next = from;
         'words: while next < end {
             let Some(word) = self.ready.get(ROWS * (next / WORD) + row) else {
@@ -190,19 +237,26 @@ impl Waiter {
 
     /// A datagram was sent to this socket: it may have one now, whether or not the system has told of it.
     #[inline]
-    pub fn mark_ready(&mut self, socket: &DatagramSocket) {
+    pub fn mark_ready(&mut self, socket: &DatagramSocket)
+        ensures marked { is_told self.new socket.now.role ≡ true }
+        ensures told { AllStayTold self.old self.new }
+    {
         set(&mut self.ready, socket.place);
     }
 
     /// A receive found the socket of this place empty.
-    pub(crate) fn found_empty(&mut self, place: Place) {
+    pub(crate) fn found_empty(&mut self, place: Place)
+        ensures { (role : Role) → IsPlace (bit_of role) place → OthersStay role self.old self.new }
+    {
         if self.poll.is_some() {
             clear(&mut self.ready, place);
         }
     }
 
     /// Has the system tell where datagrams arrived, and waits so long for the first. Returns whether it can tell.
-    fn ask(&mut self, most: Duration) -> bool {
+    fn ask(&mut self, most: Duration) -> bool
+        ensures { AllStayTold self.old self.new }
+    {
         let Some(poll) = &mut self.poll else {
             return false;
         };
@@ -210,21 +264,22 @@ impl Waiter {
             self.stop_polling();
             return false;
         }
-        'events: for event in self.events.iter() {
-            let Token(bit) = event.token();
-            set(&mut self.ready, Place::of(bit));
-        }
+        set_all(&mut self.ready, &self.events);
         true
     }
 
     /// Has the system tell at which watched sockets datagrams arrived, without waiting.
-    pub fn poll(&mut self) {
+    pub fn poll(&mut self)
+        ensures told { AllStayTold self.old self.new }
+    {
         self.ask(Duration::ZERO);
     }
 
     /// Waits until a watched socket has a datagram, at most so many milliseconds. Whoever waits has found each socket empty
     /// before, or has not been told of it; else what the system still has to tell of an earlier datagram ends the wait at once.
-    pub fn wait<R: Clock>(&mut self, rt: &R, millis: u16) {
+    pub fn wait<R: Clock>(&mut self, rt: &R, millis: u16)
+        ensures told { AllStayTold self.old self.new }
+    {
         let most = Duration::from_millis(u64::from(millis));
         if !self.ask(most) {
             thread::sleep(rt, most);
