@@ -21,7 +21,7 @@ use Rattle.access_promises.proofs.Queues.{Queues, after}
 
 -- ---- addresses
 
-by_false : (b : Bool) → (b ≡ true → ⊥) → b ≡ false
+pub by_false : (b : Bool) → (b ≡ true → ⊥) → b ≡ false
 by_false true never = absurd (never refl)
 by_false false never = refl
 

@@ -19,6 +19,7 @@ mod FewWait
 mod LeaseLemmas
 mod LeasesInRuns
 mod Moves
+mod NoClients
 mod NeverTwice
 mod OneRound
 mod OpenLemmas

@@ -21,4 +21,4 @@ pub use leases::{
 };
 pub use relaying::{relays_each_circuit_down_alone, relays_each_circuit_up_alone};
 pub use runs::turns_and_passes_are_runs;
-pub use waiting::leaves_nothing_waiting;
+pub use waiting::{leaves_nothing_waiting, opens_as_a_service};

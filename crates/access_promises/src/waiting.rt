@@ -1,10 +1,13 @@
 //! Whatever is taken in a pass is answered in it.
 ghost use Rattle.std.specs.Prelude.{◌≡◌, ◌++◌, ◌∷◌, ℕ, List, []};
-ghost use Rattle.access.specs.Access.{AccessValue};
+ghost use Rattle.access.specs.Access.{AccessValue, IsOpenedAccess};
 ghost use Rattle.access.specs.Pass.{HasMadePasses};
 ghost use Rattle.access_promises.specs.Turns.{added};
 ghost use Rattle.access_promises.specs.Waiting.{IsService, LosesNothing, waiting};
+ghost use Rattle.config.specs.Rules.{IsSound};
+ghost use Rattle.lease_disk.specs.FileDisk.{FileDiskValue};
 ghost use Rattle.settings.specs.Settings.{Settings};
+ghost use Rattle.sockets.specs.Warnings.{HasNoClientsAddress};
 ghost use Rattle.udp.specs.History.{Entry, Ticked};
 ghost use Rattle.udp.specs.declared.history.Role.{Role};
 
@@ -16,4 +19,12 @@ pub fn leaves_nothing_waiting()
     ensures { (n last now : ℕ) (settings : Settings) (old new : AccessValue) (before after : List Entry) (socket : Role)
         → IsService settings old → HasMadePasses n last old new → LosesNothing old.topology [] (added old new)
         → added old new ≡ before ++ Ticked now ∷ after → waiting old.topology socket [] before ≡ [] }
+{}
+
+/// What is opened over a configuration of which frames towards clients reach no address of the server or a relay is a service of which
+/// `leaves_nothing_waiting` speaks. `clients_address` says whether they do, and every configuration that is read is sound.
+pub fn opens_as_a_service()
+    ensures { (settings : Settings) (disk : FileDiskValue) (port : ℕ) (opening : List Entry) (access : AccessValue)
+        → IsSound settings → HasNoClientsAddress settings port → IsOpenedAccess settings disk port 16 opening access
+        → IsService settings access }
 {}
