@@ -28,7 +28,7 @@ turned_tally now n old new t =
     let served = served_tally now t.datagrams t.relayed t.served t.at_server in
     let answers = carried_tally _ t.answers t.served t.delivered t.from_relays in
     let all = tallied_then (t.frames + t.datagrams) t.answers _ _ _ (tallied_then t.frames t.datagrams _ _ _ frames served) answers in
-    subst (λ k. HasTallied k old.tally new.tally) (sym t.many) (subst (λ tally. HasTallied (t.frames + t.datagrams + t.answers) old.tally tally) (sym t.tally) all)
+    subst (λ k. HasTallied k old.tally new.tally) (sym t.many) (subst (λ tally. HasTallied (t.frames + t.datagrams + t.answers) old.tally tally) (sym (ap (λ (s : AccessValue). s.tally) t.ticks.rest)) all)
 
 pub turned_counts : (now n : ℕ) (old new : AccessValue) → HasTurned now n old new → HasCounted n old.tally.all new.tally.all
 turned_counts now n old new t =
@@ -62,7 +62,7 @@ pub quiet : (now n : ℕ) (old new : AccessValue) → HasTurned now n old new �
 quiet now n old new t none =
     let idle : t.datagrams ≡ 0 = omega (arith, t.many, none) in
     let same = carried_server _ t.answers t.served t.delivered t.from_relays ∙ (idle_server now t.datagrams t.relayed t.served t.at_server idle ∙ carried_server _ t.frames old t.relayed t.from_circuits) in
-    t.ticked ∙ ap (λ (s : ServerValue). books_at now (books_in s)) same
+    t.ticks.ticked ∙ ap (λ (s : ServerValue). books_at now (books_in s)) same
 
 carried_closed : (Try : Tries) (n : ℕ) (a b : AccessValue) → HasCarried Try n a b → StayClosed a.server b.server
 carried_closed Try n a b carried c closed = subst (λ (s : ServerValue). slice_get (books_in s) c ≡ Some None) (sym (carried_server Try n a b carried)) closed
@@ -72,7 +72,7 @@ turned_closed now n old new t c closed =
     let relayed = carried_closed _ t.frames old t.relayed t.from_circuits c closed in
     let served = served_closed now t.datagrams t.relayed t.served t.at_server c relayed in
     let delivered = carried_closed _ t.answers t.served t.delivered t.from_relays c served in
-    subst (λ books. slice_get books c ≡ Some None) (sym t.ticked) (ticked_closed now (books_in t.delivered.server) c delivered)
+    subst (λ books. slice_get books c ≡ Some None) (sym t.ticks.ticked) (ticked_closed now (books_in t.delivered.server) c delivered)
 
 -- ---- turns
 

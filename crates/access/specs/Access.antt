@@ -150,6 +150,13 @@ pub record HasServed (now count : ℕ) (old new : AccessValue) : Type 0 where
 abbrev pub books_at : ℕ → List (Option Book) → List (Option Book)
 books_at now books = map (option_map (book_at now)) books
 
+-- All clocks are moved to this moment.
+pub record HasTicked (now : ℕ) (old new : AccessValue) : Type 0 where
+  pub ticked : books_in new.server ≡ books_at now (books_in old.server)
+  pub known : new.server.topology ≡ old.server.topology
+  pub rest : new ≡ record old { server = new.server; history = new.history; turns = new.turns }
+  pub history : new.history ≡ with_entry (Ticked now) old.history
+
 -- Circuits' sockets, the server's two, relays' sockets, and then a tick: what is so after each.
 pub record HasTurned (now count : ℕ) (old new : AccessValue) : Type 0 where
   pub relayed : AccessValue
@@ -161,11 +168,7 @@ pub record HasTurned (now count : ℕ) (old new : AccessValue) : Type 0 where
   pub from_circuits : HasCarried (CircuitsSockets old.topology) frames old relayed
   pub at_server : HasServed now datagrams relayed served
   pub from_relays : HasCarried (RelaysSockets old.topology old.port) answers served delivered
-  pub ticked : books_in new.server ≡ books_at now (books_in delivered.server)
-  pub known : new.server.topology ≡ delivered.server.topology
-  pub rest : new ≡ record delivered { server = new.server; history = new.history; turns = new.turns }
-  pub history : new.history ≡ with_entry (Ticked now) delivered.history
-  pub tally : new.tally ≡ delivered.tally
+  pub ticks : HasTicked now delivered new
   pub many : count ≡ frames + datagrams + answers
 
 -- ---- turns
@@ -178,10 +181,14 @@ pub record HasTurnedOnce (before now : ℕ) (old new : AccessValue) : Type 0 whe
   pub rest : read ≡ record old { history = read.history }
   pub turn : HasTurned now count read new
 
--- So many turns, the last one at this moment: each is at the moment of a reading of its own.
+-- So many rounds, one after the other, the last one at this moment. Each is told the moment before it and its own.
+abbrev pub AreRounds : (ℕ → ℕ → AccessValue → AccessValue → Type 0) → ℕ → ℕ → AccessValue → AccessValue → Type 0
+AreRounds Round zero now old new = (now ≡ 0) × (new ≡ old)
+AreRounds Round (suc n) now old new = (before : ℕ) × (middle : AccessValue) × AreRounds Round n before old middle × Round before now middle new
+
+-- so many turns, each at the moment of a reading of its own
 abbrev pub HasServedTurns : ℕ → ℕ → AccessValue → AccessValue → Type 0
-HasServedTurns zero now old new = (now ≡ 0) × (new ≡ old)
-HasServedTurns (suc n) now old new = (before : ℕ) × (middle : AccessValue) × HasServedTurns n before old middle × HasTurnedOnce before now middle new
+HasServedTurns = AreRounds HasTurnedOnce
 
 -- ---- what follows
 

@@ -4,12 +4,11 @@ use Rattle.types.specs.declared.dest.Proto.{Proto}
 use Rattle.types.specs.declared.dest.Proto.TheVariants.{V4, V6}
 use Rattle.config.specs.Topology.{Topology}
 use Rattle.counts.specs.Tally.{CircuitFate}
-use Rattle.dispatch.specs.ServerValue.{books_in}
 use Rattle.relay.specs.Relays.{relayed_down_in}
-use Rattle.udp.specs.History.{Entry, Ticked, with_entry}
+use Rattle.udp.specs.History.{Entry}
 use Rattle.udp.specs.declared.history.Role.{Role}
 use Rattle.udp.specs.declared.history.Role.TheVariants as role
-use Rattle.access.specs.Access.{AccessValue, HasCarried, HasServed, books_at}
+use Rattle.access.specs.Access.{AccessValue, AreRounds, HasCarried, HasServed, HasTicked}
 use Rattle.access.specs.Moments.{HasRead}
 use Rattle.access.specs.Turn.{Both, CircuitSocket, InOrder, IsIdle, IsSentDown, IsTaken, Tries}
 
@@ -80,13 +79,6 @@ pub record HasTakenAll (now : ℕ) (proto : Proto) (count : ℕ) (old new : Acce
   pub slices : ℕ
   pub taken : AreSlices now proto slices (length old.topology.circuits) count old new
 
--- All clocks are moved to this moment.
-pub record HasTicked (now : ℕ) (old new : AccessValue) : Type 0 where
-  pub ticked : books_in new.server ≡ books_at now (books_in old.server)
-  pub known : new.server.topology ≡ old.server.topology
-  pub rest : new ≡ record old { server = new.server; history = new.history; turns = new.turns }
-  pub history : new.history ≡ with_entry (Ticked now) old.history
-
 -- the DHCPv4 sockets, then the DHCPv6 ones, and then a tick
 pub record HasPassed (now count : ℕ) (old new : AccessValue) : Type 0 where
   pub taken4 : AccessValue
@@ -109,7 +101,6 @@ pub record HasPassedOnce (before now : ℕ) (old new : AccessValue) : Type 0 whe
   pub pass : HasPassed now count read new
   pub few : count ≤ 38 * (length old.topology.circuits + 15)
 
--- So many passes, the last one at this moment: each is at the moment of a reading of its own.
+-- so many passes, each at the moment of a reading of its own
 abbrev pub HasMadePasses : ℕ → ℕ → AccessValue → AccessValue → Type 0
-HasMadePasses zero now old new = (now ≡ 0) × (new ≡ old)
-HasMadePasses (suc n) now old new = (before : ℕ) × (middle : AccessValue) × HasMadePasses n before old middle × HasPassedOnce before now middle new
+HasMadePasses = AreRounds HasPassedOnce

@@ -11,9 +11,9 @@ use Rattle.sockets.specs.Sockets.{client_port}
 use Rattle.udp.specs.History.{Entry, Took, Failed, Empty, Sent, Ticked, Refused, Read}
 use Rattle.udp.specs.declared.history.Role.{Role}
 use Rattle.udp.specs.declared.history.Role.TheVariants.{Circuit, Server, Relay}
-use Rattle.access.specs.Access.{AccessValue, HasCarried, HasServed}
+use Rattle.access.specs.Access.{AccessValue, HasCarried, HasServed, HasTicked}
 use Rattle.access.specs.Moments.{HasRead}
-use Rattle.access.specs.Pass.{AreSlices, HasAnswered, HasMadePasses, HasPassed, HasTicked, IsSlice, RelaysEmptied, SecondBatch}
+use Rattle.access.specs.Pass.{AreSlices, HasAnswered, HasMadePasses, HasPassed, IsSlice, RelaysEmptied, SecondBatch}
 use Rattle.access.specs.Turn.{Tries}
 use Rattle.access_promises.specs.Turns.{added}
 use Rattle.access_promises.specs.Waiting.{IsService, LosesNothing, Underway, address_of, is_at, is_socket, waiting}

@@ -4,9 +4,9 @@ use Rattle.std.specs.Prelude.{Option}
 use Rattle.types.specs.declared.dest.Proto.{Proto}
 use Rattle.types.specs.declared.dest.Proto.TheVariants.{V4, V6}
 use Rattle.udp.specs.History.{Read, with_entry}
-use Rattle.access.specs.Access.{AccessValue, HasTurned}
+use Rattle.access.specs.Access.{AccessValue, HasTicked, HasTurned}
 use Rattle.access.specs.Moments.{HasRead}
-use Rattle.access.specs.Pass.{AreSlices, HasAnswered, HasPassed, HasTicked, IsSlice, RelaysEmptied, SecondBatch, SocketsFrom}
+use Rattle.access.specs.Pass.{AreSlices, HasAnswered, HasPassed, IsSlice, RelaysEmptied, SecondBatch, SocketsFrom}
 use Rattle.access.specs.Turn.{CircuitsSockets, RelaysSockets}
 use Rattle.access_promises.specs.Turns.{IsRound}
 use Rattle.access_promises.proofs.DownLemmas.{slice_down, turn_down}
@@ -66,6 +66,6 @@ from_read before now old read moved new reads rest moves ticks = record {
 pub one_round : (before now : ℕ) (old new : AccessValue) → IsRound before now old new → IsOneRound old new
 one_round before now old new (inl once) =
     let turn = once.turn in
-    from_read before now old once.read turn.delivered new once.reads once.rest (turn_moves now once.count once.read new turn) (record { ticked = turn.ticked; known = turn.known; rest = turn.rest; history = turn.history })
+    from_read before now old once.read turn.delivered new once.reads once.rest (turn_moves now once.count once.read new turn) turn.ticks
 one_round before now old new (inr once) =
     from_read before now old once.read once.pass.taken6 new once.reads once.rest (pass_moves now once.count once.read new once.pass) once.pass.ticks

@@ -8,9 +8,9 @@ use Rattle.types.specs.Delivery.{DeliveryValue}
 use Rattle.config.specs.Topology.{Topology}
 use Rattle.dispatch.specs.Batch.{circuits_of}
 use Rattle.udp.specs.History.{Entry, Read, Ticked}
-use Rattle.access.specs.Access.{AccessValue, HasCarried, HasServed, serving_in}
+use Rattle.access.specs.Access.{AccessValue, HasCarried, HasServed, HasTicked, serving_in}
 use Rattle.access.specs.Batch.{IsRepliedAt, serving}
-use Rattle.access.specs.Pass.{AreSlices, HasAnswered, HasMadePasses, HasPassed, HasPassedOnce, HasTicked, IsEmptied, IsSlice, RelaysEmptied, SecondBatch, SocketsFrom}
+use Rattle.access.specs.Pass.{AreSlices, HasAnswered, HasMadePasses, HasPassed, HasPassedOnce, IsEmptied, IsSlice, RelaysEmptied, SecondBatch, SocketsFrom}
 use Rattle.access.specs.Polling.{begun, deliveries_in}
 use Rattle.access.specs.Turn.{Tries}
 use Rattle.access.specs.Turn as turn

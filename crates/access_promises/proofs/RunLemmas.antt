@@ -16,12 +16,12 @@ use Rattle.circuit_server.specs.Server.{book_at}
 use Rattle.lease_disk.specs.FileDisk.{device_of}
 use Rattle.dispatch.specs.ServerValue.{books_in}
 use Rattle.udp.specs.History.{Entry, Read, Ticked, with_entry}
-use Rattle.access.specs.Access.{AccessValue, HasServedTurns}
-use Rattle.access.specs.Pass.{HasMadePasses, HasTicked}
+use Rattle.access.specs.Access.{AccessValue, AreRounds, HasServedTurns, HasTicked}
+use Rattle.access.specs.Pass.{HasMadePasses}
 use Rattle.access.specs.Polling.{deliveries_in}
 use Rattle.access_promises.specs.Exchanges.{AreAlone, AreExchanges, Exchange, DropsStray, book_in, reply_of}
 use Rattle.access_promises.specs.Own.{Receive, Tick, is_own, replies_in, sent_reply, steps_in, steps_of, taken_at_server}
-use Rattle.access_promises.specs.Turns.{AreRounds, IsRun, Turn, added, turns_in}
+use Rattle.access_promises.specs.Turns.{IsRound, IsRun, Turn, added, turns_in}
 use Rattle.access_promises.proofs.Counted.{CountsEach, counts_none, counts_then}
 use Rattle.access_promises.proofs.DownLemmas.{AreDown, down_more, down_none, down_other}
 use Rattle.access_promises.proofs.EachBook.{has_book}
@@ -166,7 +166,7 @@ ran_then topology port old middle new one two = record {
   failures = counts_then topology one.exchanges two.exchanges (device_of old.disk) (device_of middle.disk) (device_of new.disk) one.failures two.failures;
 }
 
-rounds_ran : (n now : ℕ) (old new : AccessValue) → IsTopology old.topology → old.server.topology ≡ old.topology → AreRounds n now old new → Ran old.topology old.port old new
+rounds_ran : (n now : ℕ) (old new : AccessValue) → IsTopology old.topology → old.server.topology ≡ old.topology → AreRounds IsRound n now old new → Ran old.topology old.port old new
 rounds_ran zero now old new sound known made = ran_none old new known made.1
 rounds_ran (suc n) now old new sound known made =
     let middle = made.1 in
@@ -199,10 +199,10 @@ run_exchanges old new run =
 
 -- ---- turns alone, and passes alone
 
-pub turns_made : (n now : ℕ) (old new : AccessValue) → HasServedTurns n now old new → AreRounds n now old new
+pub turns_made : (n now : ℕ) (old new : AccessValue) → HasServedTurns n now old new → AreRounds IsRound n now old new
 turns_made zero now old new none = none
 turns_made (suc n) now old new turns = (turns.0, turns.1, turns_made n turns.0 old turns.1 turns.2, inl turns.3)
 
-pub passes_made : (n now : ℕ) (old new : AccessValue) → HasMadePasses n now old new → AreRounds n now old new
+pub passes_made : (n now : ℕ) (old new : AccessValue) → HasMadePasses n now old new → AreRounds IsRound n now old new
 passes_made zero now old new none = none
 passes_made (suc n) now old new passes = (passes.0, passes.1, passes_made n passes.0 old passes.1 passes.2, inr passes.3)

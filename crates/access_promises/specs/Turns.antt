@@ -1,7 +1,7 @@
 -- What a run added to the history, round by round.
 use Rattle.std.specs.Prelude.{◌≡◌, ◌⊎◌, ℕ, zero, suc, List, [], ◌∷◌, ◌++◌, drop, length}
 use Rattle.config.specs.Topology.{IsTopology}
-use Rattle.access.specs.Access.{AccessValue, HasTurnedOnce}
+use Rattle.access.specs.Access.{AccessValue, AreRounds, HasTurnedOnce}
 use Rattle.access.specs.Pass.{HasPassedOnce}
 use Rattle.udp.specs.History.{Entry, Ticked}
 
@@ -9,18 +9,13 @@ use Rattle.udp.specs.History.{Entry, Ticked}
 abbrev pub IsRound : ℕ → ℕ → AccessValue → AccessValue → Type 0
 IsRound before now old new = HasTurnedOnce before now old new ⊎ HasPassedOnce before now old new
 
--- So many rounds, the last one at this moment.
-abbrev pub AreRounds : ℕ → ℕ → AccessValue → AccessValue → Type 0
-AreRounds zero now old new = (now ≡ 0) × (new ≡ old)
-AreRounds (suc n) now old new = (before : ℕ) × (middle : AccessValue) × AreRounds n before old middle × IsRound before now middle new
-
 -- Relay and server of a configuration made some rounds.
 pub record IsRun (old new : AccessValue) : Type 0 where
   pub topology : IsTopology old.topology
   pub served : old.server.topology ≡ old.topology
   pub rounds : ℕ
   pub now : ℕ
-  pub made : AreRounds rounds now old new
+  pub made : AreRounds IsRound rounds now old new
 
 -- the entries that were added since then
 abbrev pub added : AccessValue → AccessValue → List Entry

@@ -3,7 +3,6 @@ use Rattle.std.specs.Prelude.{◌≡◌, ◌<◌, ℕ, ◌==◌, ⊤, Bool, true
 use Rattle.types.specs.Addr.{same_source}
 use Rattle.types.specs.declared.addr.Source.{Source}
 use Rattle.types.specs.declared.dest.Proto.{Proto}
-use Rattle.types.specs.declared.dest.Proto.TheVariants.{V4, V6}
 use Rattle.settings.specs.Settings.{Settings}
 use Rattle.config.specs.Rules.{IsSound}
 use Rattle.config.specs.Topology.{Topology, is_relay, is_server, listen, topology_of}
@@ -12,6 +11,7 @@ use Rattle.udp.specs.History.{Entry, Empty, Failed, Sent, Took}
 use Rattle.udp.specs.declared.history.Role.{Role}
 use Rattle.udp.specs.declared.history.Role.TheVariants as role
 use Rattle.access.specs.Access.{AccessValue}
+use Rattle.access_promises.specs.Attempts.{same_proto}
 
 -- where relays and server receive what they send each other; a circuit's socket does not
 abbrev pub address_of : Topology → Role → Option Source
@@ -22,11 +22,6 @@ address_of topology (role.Circuit c proto) = None
 abbrev pub is_at : Option Source → Source → Bool
 is_at None to = false
 is_at (Some at) to = same_source at to
-
-abbrev pub same_proto : Proto → Proto → Bool
-same_proto V4 V4 = true
-same_proto V6 V6 = true
-same_proto one other = false
 
 abbrev pub is_socket : Role → Role → Bool
 is_socket (role.Server one) (role.Server other) = same_proto one other

@@ -28,12 +28,13 @@ returns-clause-turned c =
       from_relays = subst (λ (t : Topology). HasCarried (RelaysSockets t c.args.self.now.port) c.take_from_relays-answers.result c.take_at_server-datagrams.new.self c.take_from_relays-answers.new.self) topology
           (subst (λ p. HasCarried (RelaysSockets c.take_at_server-datagrams.new.self.topology p) c.take_from_relays-answers.result c.take_at_server-datagrams.new.self c.take_from_relays-answers.new.self) port
           c.take_from_relays-answers.ensures.carried);
-      ticked = ticked (λ region. untold) c.args.now (circuits_in c.tick.new.self) (circuits_in c.self.inside.server) (c.tick.ensures.leases (λ region. untold))
-          ∙ ap (λ (s : AccessValue). books_at c.args.now (books_in s.server)) c.self.view_is;
-      known = c.tick.ensures.topology ∙ ap (λ (s : AccessValue). s.server.topology) c.self.view_is;
-      rest = ap (λ (s : AccessValue). record s { server = c.tick.new.self; history = c.tick-2.new.self.entries; turns = c.tick-3.new.self.count }) c.self.view_is;
-      tally = ap (λ (s : AccessValue). s.tally) c.self.view_is;
-      history = c.tick-2.ensures.entries ∙ ap (λ (s : AccessValue). with_entry (Ticked c.args.now) s.history) c.self.view_is;
+      ticks = record {
+        ticked = ticked (λ region. untold) c.args.now (circuits_in c.tick.new.self) (circuits_in c.self.inside.server) (c.tick.ensures.leases (λ region. untold))
+            ∙ ap (λ (s : AccessValue). books_at c.args.now (books_in s.server)) c.self.view_is;
+        known = c.tick.ensures.topology ∙ ap (λ (s : AccessValue). s.server.topology) c.self.view_is;
+        rest = ap (λ (s : AccessValue). record s { server = c.tick.new.self; history = c.tick-2.new.self.entries; turns = c.tick-3.new.self.count }) c.self.view_is;
+        history = c.tick-2.ensures.entries ∙ ap (λ (s : AccessValue). with_entry (Ticked c.args.now) s.history) c.self.view_is;
+      };
       many = refl;
     }
 
@@ -53,4 +54,4 @@ pub returns-clause-clocks : goal.returns-clause-clocks
 unfolding returns-clause-turned
 returns-clause-clocks c = λ k book found.
     reached c.args.now (books_in c.take_from_relays-answers.new.self.server) k book
-    (subst (λ books. slice_get books k ≡ Some (Some book)) (returns-clause-turned c).ticked found)
+    (subst (λ books. slice_get books k ≡ Some (Some book)) (returns-clause-turned c).ticks.ticked found)
