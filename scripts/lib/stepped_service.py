@@ -1,6 +1,7 @@
 """A service that makes one pass at a time, and only if a case lets it, and what each pass asks of the system, in order. A pass begins
 with a look for datagrams that doesn't wait: there the service stands still, stopped by the watcher of its calls, so that whatever
-arrives meanwhile waits when the pass begins. After a pass that took nothing comes a look that waits, which returns at once.
+arrives meanwhile waits when the pass begins. After a full slice it looks within the pass, and goes on. After a pass that took
+nothing comes a look that waits, which returns at once.
 Of what a pass receives it is known whether a datagram waited and who had sent it: while the service stands at a receive, the
 watcher looks at the same socket."""
 import collections
@@ -14,6 +15,8 @@ from system_calls import FOUND_NOTHING, GO_ON, Watch, copies
 SERVER_PORTS = {6767: 4, 6547: 6}
 FIRST_RELAY = 6801
 PORT = 23000
+# how many frames a full slice has
+SLICE = 16
 
 # A call: its name; where it was made: "circuit", "server" or "relay", whose number and whose protocol, if they have any; and of a
 # receive from where what it took was sent, None if nothing waited
@@ -37,6 +40,8 @@ class PassWatch(Watch):
         super().__init__(("write", "sync", "send", "receive", "look"))
         self.ends, self.places = {}, {}
         self.made, self.allowed, self.stands, self.took_nothing = [], 0, False, False
+        # how many frames the last slice took, and whether it is over: the server has been tried since
+        self.frames, self.is_over = 0, False
         # the longest wait after a pass that took nothing, in milliseconds
         self.longest = 0
 
@@ -46,6 +51,9 @@ class PassWatch(Watch):
                 self.took_nothing = True
                 self.longest = max(self.longest, milliseconds)
                 return FOUND_NOTHING
+            was_full, self.frames = self.frames == SLICE, 0
+            if was_full:
+                return GO_ON
             if not self.allowed:
                 self.stands = True
                 self.changed.notify_all()
@@ -58,6 +66,10 @@ class PassWatch(Watch):
     def call(self, name, first_argument):
         place = self.places.get(first_argument, ("file", None, None))
         source = self.sender_at(first_argument) if name == "receive" else None
+        if place[0] == "circuit" and source:
+            self.frames, self.is_over = 1 if self.is_over else self.frames + 1, False
+        elif place[0] == "server":
+            self.is_over = True
         self.made.append(Call(name, *place, source))
         return GO_ON
 
