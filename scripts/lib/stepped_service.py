@@ -44,6 +44,8 @@ class PassWatch(Watch):
         self.frames, self.is_over = 0, False
         # the longest wait after a pass that took nothing, in milliseconds
         self.longest = 0
+        # what happens at each look within a pass
+        self.within = lambda: None
 
     def look(self, milliseconds):
         with self.changed:
@@ -53,6 +55,7 @@ class PassWatch(Watch):
                 return FOUND_NOTHING
             was_full, self.frames = self.frames == SLICE, 0
             if was_full:
+                self.within()
                 return GO_ON
             if not self.allowed:
                 self.stands = True
@@ -135,10 +138,17 @@ class SteppedService(Server):
     def await_datagrams(self, *places):
         """Waits until each socket of these places, "circuit", "server" or "relay", has a datagram: what is sent is there at once,
         unless the system is busy."""
+        self.await_each(lambda place: place[0] in places)
+
+    def await_frames(self, circuits):
+        """Waits until the DHCPv4 socket of each of these circuits has one."""
+        self.await_each(lambda place: place[0] == "circuit" and place[1] in circuits and place[2] == 4)
+
+    def await_each(self, is_awaited):
         for descriptor, end in self.watch.ends.items():
             poll = select.poll()
             poll.register(end, select.POLLIN)
-            if self.watch.places[descriptor][0] in places and not poll.poll(1000 * LIMIT):
+            if is_awaited(self.watch.places[descriptor]) and not poll.poll(1000 * LIMIT):
                 raise TimeoutError(f"nothing arrives at {end.getsockname()}")
 
     def kill(self):
