@@ -1,3 +1,4 @@
+pub mod Served
 pub mod Serving
 pub mod Status
 pub mod Words

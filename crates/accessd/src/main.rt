@@ -1,9 +1,10 @@
 //! Runs relay and server over UDP sockets on loopback, with the leases kept in a file.
 #![tactic(auto)]
 
-ghost use Rattle.std.specs.Prelude.{◌≡◌, ◌≤◌, ◌⊎◌, ◌+◌, ◌*◌, true, false, length, IfErr, IfOk};
-ghost use Rattle.lease_disk.specs.FileDisk.{uncalled};
+ghost use Rattle.std.specs.Prelude.{◌≡◌, ◌≤◌, ◌⊎◌, ◌+◌, ◌*◌, length, IfErr, IfOk, OnErr, OnOk};
+ghost use Rattle.accessd.specs.Served.{HasServedAs, HasServedBy, HasServedValues, HasServedWords, IsDevice, IsOpenedBy};
 ghost use Rattle.accessd.specs.Serving.{batch_of, most_of};
+ghost use Rattle.accessd.specs.declared.serving.Serving.TheVariants as serving;
 ghost use Rattle.accessd.specs.Status.{IsExitStatus, status_of, device_status};
 
 mod addresses;
@@ -21,7 +22,7 @@ use crate::serving::Serving;
 use crate::text::{circuit_at, id_of, text_of};
 use crate::words::AccessWords;
 use access::{
-    Access, AccessFault, DeviceFault, History, ServeOptions, clients_address, device_of,
+    Access, AccessFault, DeviceFault, History, ServeOptions, Watch, clients_address, device_of,
     try_sockets,
 };
 use command_line::{
@@ -124,6 +125,8 @@ fn may_format_file(rt: &HostRuntime, path: &str, config: &str) -> Result<(), u8>
 /// Whether nothing is in the way of formatting and of what is served afterwards, so that a refusal makes no file and leaves
 /// the one that there is. An error is the status.
 fn may_format(rt: &HostRuntime, config: &Config, values: &AccessWords<'_>) -> Result<(), u8>
+    ensures few { OnOk result (length config.now.circuits ≤ most_of values.now.serving) }
+    ensures ports { OnOk result (values.now.port + 4 * length config.now.circuits ≤ 65536) }
     ensures status { IfErr result IsExitStatus }
 {
     may_format_file(rt, values.disk, values.config)?;
@@ -135,9 +138,8 @@ fn may_format(rt: &HostRuntime, config: &Config, values: &AccessWords<'_>) -> Re
 
 /// The device in the file with the leases, formatted where that is asked for.
 fn device(rt: &HostRuntime, config: &Config, values: &AccessWords<'_>) -> Result<FileDisk, u8>
-    ensures formats { values.now.format ≡ true → length config.now.circuits ≤ most_of values.now.serving
-        → IfOk result (λ disk. disk.writes ≡ 4 * length config.now.circuits) }
-    ensures opens { values.now.format ≡ false → IfOk result (λ disk. disk ≡ uncalled disk.length) }
+    ensures device { length config.now.circuits ≤ most_of values.now.serving
+        → IfOk result (IsDevice values.now.format config.now) }
     ensures status { IfErr result (λ status. (status ≡ 4) ⊎ (status ≡ 5)) }
 {
     let most = usize::from(values.serving.most_circuits());
@@ -223,6 +225,8 @@ fn refuse(rt: &HostRuntime, config: &Config, values: &AccessWords<'_>, fault: Ac
 /// Whether the service can have its ports: each circuit has four, and frames towards clients reach no address of the server or of
 /// a relay. An error is the status.
 fn may_serve(rt: &HostRuntime, config: &Config, values: &AccessWords<'_>) -> Result<(), u8>
+    ensures ports { OnOk result
+        (values.now.serving ≡ serving.Service → values.now.port + 4 * length config.now.circuits ≤ 65536) }
     ensures status { IfErr result (λ status. status ≡ 2) }
 {
     if let Serving::Turns { .. } = values.serving {
@@ -311,76 +315,100 @@ fn report_clocks(rt: &HostRuntime, access: &Access) {
     }
 }
 
-/// Reports what is served, serves, and returns the status.
-fn serve(rt: &HostRuntime, config: &Config, values: &AccessWords<'_>, access: &mut Access) -> u8
+/// Makes the turns or the passes that the words ask for, and shows each to `watch`.
+fn make_rounds<W: Watch>(rt: &HostRuntime, serving: Serving, access: &mut Access, watch: &mut W)
+    ensures { HasServedAs serving access.old access.new }
+{
+    match serving {
+        Serving::Turns { turns, pause, .. } => access.serve(rt, turns, pause, watch),
+        Serving::Service => access.serve_passes(rt, u64::MAX, watch),
+    }
+}
+
+/// Reports what is served, and serves. An error is the status, and nothing was served.
+fn serve(
+    rt: &HostRuntime,
+    config: &Config,
+    values: &AccessWords<'_>,
+    access: &mut Access,
+) -> Result<(), u8>
     requires ports { values.now.port + 4 * length config.now.circuits ≤ 65536 }
-    ensures { IsExitStatus result }
+    ensures served { OnOk result (HasServedAs values.now.serving access.old access.new) }
+    ensures unserved { OnErr result (access.new ≡ access.old) }
+    ensures status { IfErr result (λ status. status ≡ 4) }
 {
     report_addresses(rt, config, values.port);
     report_moves(rt, config, access);
     report_clocks(rt, access);
     let Ok(mut reporter) = Reporter::new(rt, access, values.report, values.leases) else {
-        return complain(rt, "open memory", UNOPENED);
+        return Err(complain(rt, "open memory", UNOPENED));
     };
     report_start(rt, config, access, values);
-    match values.serving {
-        Serving::Turns { turns, pause, .. } => access.serve(rt, turns, pause, &mut reporter),
-        Serving::Service => access.serve_passes(rt, u64::MAX, &mut reporter),
-    }
+    make_rounds(rt, values.serving, access, &mut reporter);
     reporter.end(access);
-    0
+    Ok(())
 }
 
-/// Opens relay and server over a device, and serves.
-fn run_over(rt: &HostRuntime, config: &Config, values: &AccessWords<'_>, disk: FileDisk) -> u8
+/// Opens relay and server as the words say. An error is the status.
+fn open_access(rt: &HostRuntime, config: &Config, values: &AccessWords<'_>) -> Result<Access, u8>
     requires some { 1 ≤ batch_of values.now.serving }
     requires few { batch_of values.now.serving ≤ 16 }
-    ensures { IsExitStatus result }
+    ensures opened { IfOk result (IsOpenedBy config.now values.now) }
+    ensures status { IfErr result IsExitStatus }
 {
+    let disk = device(rt, config, values)?;
     let mut opening = History::new();
     let options = options_of(values);
     match Access::open(rt, rt.alloc(), config, disk, options, &mut opening) {
-        Ok(mut access) => {
-            let status = serve(rt, config, values, &mut access);
-            // by a call: all that it holds would otherwise be part of this function's proof
-            drop(access);
-            status
-        }
-        Err(fault) => refuse(rt, config, values, fault),
+        Ok(access) => Ok(access),
+        Err(fault) => Err(refuse(rt, config, values, fault)),
     }
 }
 
-/// Runs over a configuration, and returns the status.
-fn run_with(rt: &HostRuntime, config: &Config, values: &AccessWords<'_>) -> u8
+/// Opens relay and server over a configuration, and serves. Returns them after the last turn or pass; an error is the status.
+fn run_over(rt: &HostRuntime, config: &Config, values: &AccessWords<'_>) -> Result<Access, u8>
     requires some { 1 ≤ batch_of values.now.serving }
     requires few { batch_of values.now.serving ≤ 16 }
-    ensures { IsExitStatus result }
+    ensures served { IfOk result (HasServedBy config.now values.now) }
+    ensures status { IfErr result IsExitStatus }
 {
-    if let Err(status) = may_serve(rt, config, values) {
-        return status;
+    may_serve(rt, config, values)?;
+    if values.format {
+        may_format(rt, config, values)?;
     }
-    if values.format
-        && let Err(status) = may_format(rt, config, values)
-    {
-        return status;
-    }
-    match device(rt, config, values) {
-        Ok(disk) => run_over(rt, config, values, disk),
-        Err(status) => status,
+    let mut access = open_access(rt, config, values)?;
+    match serve(rt, config, values, &mut access) {
+        Ok(()) => Ok(access),
+        Err(status) => {
+            // by a call: all that it holds would otherwise be part of this function's proof
+            drop(access);
+            Err(status)
+        }
     }
 }
 
-/// Runs as the words say, and returns the status.
-fn run(rt: &HostRuntime, values: AccessWords<'_>) -> u8
+/// Runs as the words say, over the configuration that they name. Returns relay and server after the last turn or pass; an error is
+/// the status.
+fn run(rt: &HostRuntime, values: AccessWords<'_>) -> Result<Access, u8>
     requires some { 1 ≤ batch_of values.serving }
     requires few { batch_of values.serving ≤ 16 }
-    ensures { IsExitStatus result }
+    ensures served { IfOk result (HasServedValues values.entry) }
+    ensures status { IfErr result IsExitStatus }
 {
-    let config = match read_configuration(rt, values.config) {
-        Ok(config) => config,
-        Err(status) => return status,
-    };
-    run_with(rt, &config, &values)
+    let config = read_configuration(rt, values.config)?;
+    run_over(rt, &config, &values)
+}
+
+/// Runs as the program's words say. Returns relay and server after the last turn or pass; an error is the status.
+fn run_words(rt: &HostRuntime) -> Result<Access, u8>
+    ensures served { IfOk result HasServedWords }
+    ensures status { IfErr result IsExitStatus }
+{
+    let given = given_words(rt)?;
+    match words::words(rt.alloc(), &given) {
+        Ok(values) => run(rt, values),
+        Err(fault) => Err(fault.show(rt)),
+    }
 }
 
 fn status(rt: &HostRuntime) -> u8
@@ -390,13 +418,12 @@ fn status(rt: &HostRuntime) -> u8
         Ok(streams) => streams,
         Err(status) => return status,
     };
-    let given = match given_words(rt) {
-        Ok(given) => given,
-        Err(status) => return status,
-    };
-    match words::words(rt.alloc(), &given) {
-        Ok(values) => run(rt, values),
-        Err(fault) => fault.show(rt),
+    match run_words(rt) {
+        Ok(access) => {
+            drop(access);
+            0
+        }
+        Err(status) => status,
     }
 }
 
