@@ -11,6 +11,7 @@ pub mod PartLemmas
 pub mod PlaceLemmas
 pub mod ReceivedLemmas
 pub mod RegionLemmas
+pub mod ReopenLemmas
 pub mod RestartLemmas
 pub mod SaverLemmas
 pub mod SavingLemmas

@@ -33,7 +33,7 @@ not_before clock now = omega arith
 reached : (clock now : ℕ) → now ≤ max clock now
 reached clock now = omega arith
 
-book_of_open : (now : ℕ) (o : OpenCircuitValue) → open_book (open_at now o) ≡ book_at now (open_book o)
+pub book_of_open : (now : ℕ) (o : OpenCircuitValue) → open_book (open_at now o) ≡ book_at now (open_book o)
 book_of_open now o =
     λ i. record {
       clock = max o.clock now;
@@ -41,11 +41,11 @@ book_of_open now o =
       six = sym (at_later6 o.clock (max o.clock now) (not_before o.clock now) (slots6.book_of_slots (number6 o.six.pool.first) o.six.slots)) i;
     }
 
-book_after_tick : (now : ℕ) (state : Option OpenCircuitValue) → option_map open_book (state_at now state) ≡ option_map (book_at now) (option_map open_book state)
+pub book_after_tick : (now : ℕ) (state : Option OpenCircuitValue) → option_map open_book (state_at now state) ≡ option_map (book_at now) (option_map open_book state)
 book_after_tick now None = refl
 book_after_tick now (Some o) = ap Some (book_of_open now o)
 
-ready_after_tick : (now : ℕ) (region : Region) (state : Option OpenCircuitValue) → IsReadyFor region state → IsReadyFor region (state_at now state)
+pub ready_after_tick : (now : ℕ) (region : Region) (state : Option OpenCircuitValue) → IsReadyFor region state → IsReadyFor region (state_at now state)
 ready_after_tick now region None ready = ready
 ready_after_tick now region (Some o) ready =
     let later = not_before o.clock now in

@@ -7,6 +7,7 @@ pub mod ReadBack
 pub mod Received
 pub mod ReceivedAlone
 pub mod Regions
+pub mod Reopened
 pub mod Restarted
 pub mod ServerValue
 pub mod Turned

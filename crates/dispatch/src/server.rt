@@ -1,6 +1,6 @@
 //! The server of all circuits, over a device that keeps their leases.
 ghost use Rattle.std.specs.Prelude.{◌≡◌, ◌<◌, ◌≤◌, ◌+◌, ◌*◌, ◌↔◌, ℕ, Option, [], length, map, replicate, slice_get, None};
-ghost use Rattle.std.specs.Prelude.{Some, true, false, is_some, nat_lt, option_map, count_by, All, IfOk, IfErr, OnErr};
+ghost use Rattle.std.specs.Prelude.{Some, true, false, is_some, nat_lt, ◌==◌, option_map, count_by, All, IfOk, IfErr, IfSome, OnErr};
 ghost use Rattle.config.specs.CircuitPart.{parts_of};
 ghost use Rattle.config.specs.Topology.{IsTopology, plans_topology, reloaded, serves, topology_of};
 ghost use Rattle.requests.specs.Addressee as who;
@@ -11,6 +11,7 @@ ghost use Rattle.dispatch.specs.Deadlines.{AllUnchangedOrUntilHeld, AreSetAnew, 
 ghost use Rattle.dispatch.specs.ServerValue.{AreReady, BeginsAsFound, HoldsDeadlines, books_in, circuits_in, leases_in};
 ghost use Rattle.circuit_server.specs.Leases.{Leases, after_tick, found_leases, turned};
 ghost use Rattle.dispatch.specs.Regions.{AreRegionsMigrated, AreSynced, HasRegions, KeepsOthers};
+ghost use Rattle.dispatch.specs.Reopened.{IsReopened, KeepsOtherCircuits};
 ghost use Rattle.dispatch.specs.Restarted.{IsOpened, IsRestartOf};
 ghost use Rattle.dispatch.specs.Received.{received, received_leases, received_saves};
 ghost use Rattle.dispatch.specs.ReceivedAlone.{IsFound, IsReceivedAlone};
@@ -21,7 +22,7 @@ ghost use Rattle.circuit_server.specs.Ticked.{server_state};
 ghost use Rattle.dispatch.specs.declared.server.OpenFault.TheVariants as fault;
 ghost use Rattle.lease_disk.specs.Device.{WritesAt, has_failed};
 ghost use Rattle.types.specs.Delivery.{delivery};
-ghost use Rattle.lease_disk.specs.Region.{Region};
+ghost use Rattle.lease_disk.specs.Region.{IsClean, Region};
 ghost use Rattle.timers.specs.Deadlines.{deadline, entry_after_sweep, is_due};
 
 mod batch;
@@ -269,7 +270,7 @@ impl Server {
 
     /// Takes a datagram of this protocol from this source at this moment, for the circuit that it is of. What the answer
     /// changes but offers is saved before it leaves; where the save fails the circuit is closed, alone,
-    /// until a restart. At `Ok` the reply's datagram is in `out`, which is empty otherwise.
+    /// until a restart or `reopen`. At `Ok` the reply's datagram is in `out`, which is empty otherwise.
     pub fn receive<D: Disk>(
         &mut self,
         proto: Proto,
@@ -440,5 +441,34 @@ impl Server {
             &mut self.buffer,
             &mut self.deadlines,
         );
+    }
+
+    /// Begins this circuit anew with what its region holds, as a restart does, and leaves every other one as it is. The moment of
+    /// the last tick has passed for it too. A circuit that there is not changes nothing.
+    pub fn reopen<D: Disk>(&mut self, circuit: Circuit, disk: &mut D)
+        requires exists { IfSome (slice_get self.old.topology.circuits circuit) (λ part. part.region < (D.device disk.old).count) }
+        requires synced { D.tells ≡ true
+            → IfSome (slice_get self.old.topology.circuits circuit) (λ part.
+            ((D.device disk.old).region part.region).readable ≡ true → IsClean ((D.device disk.old).region part.region)) }
+        ensures topology { self.new.topology ≡ self.old.topology }
+        ensures unchanged { length self.old.topology.circuits ≤ circuit
+            → (self.new ≡ self.old) × (D.device disk.new ≡ D.device disk.old) }
+        ensures reopened { IfSome (slice_get self.old.topology.circuits circuit) (λ part.
+            IsReopened D.tells circuit part self.new (D.device disk.old) (D.device disk.new)) }
+        ensures ready { D.tells ≡ true → AreReady (D.device disk.old).region self.old → AreReady (D.device disk.new).region self.new }
+        ensures others { KeepsOtherCircuits D.tells circuit self.old self.new (D.device disk.old) (D.device disk.new) }
+        ensures deadlines { KeepsDeadlines (λ c. c == circuit) self.old.deadlines self.new.deadlines }
+        ensures count { (D.device disk.new).count ≡ (D.device disk.old).count }
+        ensures reads { (D.device disk.new).reads ≤ (D.device disk.old).reads + 5 }
+        ensures writes { (D.device disk.new).writes ≤ (D.device disk.old).writes + 4 }
+    {
+        let index = circuit.index();
+        if index >= self.servers.len() {
+            return;
+        }
+        let server = &mut self.servers[index];
+        server.restart(self.circuits.part(circuit), disk, &mut self.buffer);
+        server.tick(self.ticked);
+        server.set_deadlines(&mut self.deadlines, circuit);
     }
 }
