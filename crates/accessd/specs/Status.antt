@@ -23,3 +23,8 @@ device_status device.Format = 4
 -- socket, 6 where help can't be written
 abbrev pub IsExitStatus : ℕ → Type 0
 IsExitStatus status = (status ≡ 0) ⊎ (status ≡ 2) ⊎ (status ≡ 4) ⊎ (status ≡ 5) ⊎ (status ≡ 6)
+
+-- why the program ends before it has served: 2 where the configuration or what it asks for is refused, 4 where the opening is, 5 for a
+-- file or socket
+abbrev pub IsRefusalStatus : ℕ → Type 0
+IsRefusalStatus status = (status ≡ 2) ⊎ (status ≡ 4) ⊎ (status ≡ 5)

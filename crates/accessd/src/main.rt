@@ -5,7 +5,7 @@ ghost use Rattle.std.specs.Prelude.{◌≡◌, ◌≤◌, ◌⊎◌, ◌+◌, �
 ghost use Rattle.accessd.specs.Served.{HasServedAs, HasServedBy, HasServedValues, HasServedWords, IsDevice, IsOpenedBy};
 ghost use Rattle.accessd.specs.Serving.{batch_of, most_of};
 ghost use Rattle.accessd.specs.declared.serving.Serving.TheVariants as serving;
-ghost use Rattle.accessd.specs.Status.{IsExitStatus, status_of, device_status};
+ghost use Rattle.accessd.specs.Status.{IsExitStatus, IsRefusalStatus, status_of, device_status};
 
 mod addresses;
 mod open_files;
@@ -127,7 +127,7 @@ fn may_format_file(rt: &HostRuntime, path: &str, config: &str) -> Result<(), u8>
 fn may_format(rt: &HostRuntime, config: &Config, values: &AccessWords<'_>) -> Result<(), u8>
     ensures few { OnOk result (length config.now.circuits ≤ most_of values.now.serving) }
     ensures ports { OnOk result (values.now.port + 4 * length config.now.circuits ≤ 65536) }
-    ensures status { IfErr result IsExitStatus }
+    ensures status { IfErr result IsRefusalStatus }
 {
     may_format_file(rt, values.disk, values.config)?;
     match try_sockets(rt, rt.alloc(), config, options_of(values)) {
@@ -354,7 +354,7 @@ fn open_access(rt: &HostRuntime, config: &Config, values: &AccessWords<'_>) -> R
     requires some { 1 ≤ batch_of values.now.serving }
     requires few { batch_of values.now.serving ≤ 16 }
     ensures opened { IfOk result (IsOpenedBy config.now values.now) }
-    ensures status { IfErr result IsExitStatus }
+    ensures status { IfErr result IsRefusalStatus }
 {
     let disk = device(rt, config, values)?;
     let mut opening = History::new();
@@ -370,7 +370,7 @@ fn run_over(rt: &HostRuntime, config: &Config, values: &AccessWords<'_>) -> Resu
     requires some { 1 ≤ batch_of values.now.serving }
     requires few { batch_of values.now.serving ≤ 16 }
     ensures served { IfOk result (HasServedBy config.now values.now) }
-    ensures status { IfErr result IsExitStatus }
+    ensures status { IfErr result IsRefusalStatus }
 {
     may_serve(rt, config, values)?;
     if values.format {
@@ -393,7 +393,7 @@ fn run(rt: &HostRuntime, values: AccessWords<'_>) -> Result<Access, u8>
     requires some { 1 ≤ batch_of values.serving }
     requires few { batch_of values.serving ≤ 16 }
     ensures served { IfOk result (HasServedValues values.entry) }
-    ensures status { IfErr result IsExitStatus }
+    ensures status { IfErr result IsRefusalStatus }
 {
     let config = read_configuration(rt, values.config)?;
     run_over(rt, &config, &values)
