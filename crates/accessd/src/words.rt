@@ -2,7 +2,8 @@
 ghost use Rattle.std.specs.Prelude.{◌≡◌, false, map};
 ghost use Rattle.std.specs.Prelude.{string_bytes, IfOk, IfErr, IfSome, IsNone};
 ghost use Rattle.clap.specs.Words.{app_of, rule_of, found_of, rows_of};
-ghost use Rattle.accessd.specs.Words.{batch_rule, disk_rule, format_rule, leases_rule, pause_rule, port_rule, report_rule, service_rule, turns_rule};
+ghost use Rattle.accessd.specs.Words.{batch_rule, disk_rule, format_rule, leases_rule};
+ghost use Rattle.accessd.specs.Words.{pause_rule, port_rule, report_rule, service_rule, turns_rule};
 ghost use Rattle.accessd.specs.Words.{bare_app, base_app, serving_app, access_app, HasValues, IsRefusedFor, IsShownWith, Spells};
 ghost use Rattle.accessd.specs.declared.words.AccessWords as access;
 

@@ -458,7 +458,6 @@ impl Server {
         ensures ready { D.tells ≡ true → AreReady (D.device disk.old).region self.old → AreReady (D.device disk.new).region self.new }
         ensures others { KeepsOtherCircuits D.tells circuit self.old self.new (D.device disk.old) (D.device disk.new) }
         ensures deadlines { KeepsDeadlines (λ c. c == circuit) self.old.deadlines self.new.deadlines }
-        ensures count { (D.device disk.new).count ≡ (D.device disk.old).count }
         ensures reads { (D.device disk.new).reads ≤ (D.device disk.old).reads + 5 }
         ensures writes { (D.device disk.new).writes ≤ (D.device disk.old).writes + 4 }
     {
