@@ -1,5 +1,5 @@
 -- What shows of a circuit's server in the code.
-use Rattle.std.specs.Prelude.{◌≡◌, ◌≤◌, ℕ, true, List, [], ◌∷◌, map, Option, Some, None, IfSome, option_map}
+use Rattle.std.specs.Prelude.{◌≡◌, ◌≤◌, ℕ, Bool, true, false, List, [], ◌∷◌, map, Option, Some, None, IfSome, option_map}
 use Rattle.config.specs.CircuitPart.{CircuitPart, pool4_of, pool6_of}
 use Rattle.lease_disk.specs.declared.marks.Marks.{Marks}
 use Rattle.lease_disk.specs.Layout.{is_format2}
@@ -51,6 +51,10 @@ HasItsPools s = HasPools s.part s.state
 -- the book of an open circuit is what some slots of a region mean: at their clock, and without offers
 abbrev pub HasFoundBook : CircuitServerValue → Type 0
 HasFoundBook s = IfSome s.state (λ o. (slots : Slots) × (open_book o ≡ book_in s.part slots))
+
+-- an open circuit's region is settled
+abbrev pub HasSettledRegion : (ℕ → Bool) → CircuitServerValue → Type 0
+HasSettledRegion doubt s = IfSome s.state (λ o. doubt s.part.region ≡ false)
 
 -- how many addresses its pools have
 abbrev pub counts_in : OpenCircuitValue → List ℕ

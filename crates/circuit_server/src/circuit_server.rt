@@ -3,7 +3,7 @@ ghost use Rattle.std.specs.Prelude.{◌≡◌, ◌<◌, ◌≤◌, ◌+◌, ◌*
 ghost use Rattle.std.specs.Prelude.{IfOk, IfErr, IfSome, true, is_some, option_map};
 ghost use Rattle.config.specs.CircuitPart.{IsPart};
 ghost use Rattle.circuit_server.specs.Deadlines.{HasEntries, KeepsEntries, held_in};
-ghost use Rattle.circuit_server.specs.Restarted.{IsRestarted};
+ghost use Rattle.circuit_server.specs.Restarted.{IsRestarted, SettlesOne};
 ghost use Rattle.circuit_server.specs.Served.{IsServed};
 ghost use Rattle.timers.specs.Deadlines.{deadline};
 ghost use Rattle.requests.specs.RelayedMessage.{IsRelayedMessage};
@@ -13,7 +13,7 @@ ghost use Rattle.circuit_server.specs.CircuitDecision.{FitsCircuit, with_decisio
 ghost use Rattle.circuit_server.specs.CircuitServerValue.{HasFoundBook, HasPools, IsReadyFor, OpenCircuitValue, kept_slots, open_book};
 ghost use Rattle.circuit_server.specs.Ticked.{IsLater, state_at};
 ghost use Rattle.circuit_server.specs.Unoffered.{state_unoffered};
-ghost use Rattle.lease_disk.specs.Device.{ChangesOne};
+ghost use Rattle.lease_disk.specs.Device.{ChangesOne, IsCalledWithin};
 ghost use Rattle.lease_disk.specs.Region.{IsClean};
 
 use crate::decision::{CircuitDecision, CircuitDecision4, CircuitDecision6, Decide, Decision, put};
@@ -81,8 +81,8 @@ impl CircuitServer {
         ensures found { HasFoundBook (record { part = part.now; state = self.new }) }
         ensures restarted { IsRestarted D.tells part.now self.new (D.device disk.old) (D.device disk.new) }
         ensures frame { ChangesOne D.tells part.now.region (D.device disk.old) (D.device disk.new) }
-        ensures reads { (D.device disk.new).reads ≤ (D.device disk.old).reads + 5 }
-        ensures writes { (D.device disk.new).writes ≤ (D.device disk.old).writes + 4 }
+        ensures calls { IsCalledWithin 1 5 4 (D.device disk.old) (D.device disk.new) }
+        ensures doubt { SettlesOne part.now.region self.new (D.doubt disk.old) (D.doubt disk.new) }
     {
         let Ok(()) = migrate(part.region(), disk, part.counts(), buffer) else {
             self.state = None;

@@ -9,7 +9,8 @@ ghost use Rattle.circuit_server.specs.Server.{book_at, kept_book};
 ghost use Rattle.circuit_server.specs.CircuitServerValue.{HasFoundBook, HasPools, IsReadyFor, counts_in, kept_slots, open_book};
 ghost use Rattle.circuit_server.specs.Ticked.{open_at};
 ghost use Rattle.lease_disk.specs.Book.{IsBook};
-ghost use Rattle.lease_disk.specs.Device.{TouchesNothing};
+ghost use Rattle.circuit_server.specs.Restarted.{SettlesOne};
+ghost use Rattle.lease_disk.specs.Device.{IsCalledWithin, TouchesNothing};
 ghost use Rattle.lease_disk.specs.Layout.{is_format2};
 ghost use Rattle.lease_disk.specs.Region.{IsClean, Region};
 
@@ -53,7 +54,8 @@ impl OpenCircuit {
             → (((D.device disk.old).region part.now.region).readable ≡ true → IsClean ((D.device disk.old).region part.now.region))
             → IsReadyFor ((D.device disk.old).region part.now.region) result }
         ensures frame { TouchesNothing D.tells (D.device disk.old) (D.device disk.new) }
-        ensures reads { (D.device disk.new).reads ≤ (D.device disk.old).reads + 2 }
+        ensures calls { IsCalledWithin 1 2 0 (D.device disk.old) (D.device disk.new) }
+        ensures doubt { SettlesOne part.now.region result (D.doubt disk.old) (D.doubt disk.new) }
     {
         let Ok((slots, marks)) = recover(part.region(), disk, part.counts()) else {
             return None;

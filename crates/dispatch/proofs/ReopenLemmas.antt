@@ -11,6 +11,7 @@ use Rattle.lease_disk.specs.Device.{ChangesOne, Device}
 use Rattle.lease_disk.specs.Region.{Region}
 use Rattle.circuit_server.specs.CircuitServerValue.{CircuitServerValue, HasFoundBook, HasPools, IsReady, IsReadyFor, OpenCircuitValue, leases_of, open_book, part_of, server_book}
 use Rattle.circuit_server.specs.Leases.{Leases, after_tick, book_in, formats_of, restarts_of}
+use Rattle.circuit_server.specs.Restarted.{SettlesOne}
 use Rattle.circuit_server.specs.Server.{book_at}
 use Rattle.circuit_server.specs.Ticked.{IsLater, server_state, state_at}
 use Rattle.dispatch.specs.ServerValue.{with_states}
@@ -47,6 +48,10 @@ pub found_later : (now : ℕ) (part : CircuitPart) (state : Option OpenCircuitVa
     → IfSome (state_at now state) (λ o. (slots : Slots) × (open_book o ≡ book_at now (book_in part slots)))
 found_later now part None has = tt
 found_later now part (Some o) has = (has.0, book_of_open now o ∙ ap (book_at now) has.1)
+
+pub settled_later : (now region : ℕ) (state : Option OpenCircuitValue) (old new : ℕ → Bool) → SettlesOne region state old new → SettlesOne region (state_at now state) old new
+settled_later now region None old new settles = record { settled = tt; stay = settles.stay }
+settled_later now region (Some o) old new settles = record { settled = settles.settled; stay = settles.stay }
 
 leases_later : (now : ℕ) (regions : ℕ → Region) (part : CircuitPart) (state : Option OpenCircuitValue)
     → leases_of regions (server part (state_at now state)) ≡ after_tick now (leases_of regions (server part state))

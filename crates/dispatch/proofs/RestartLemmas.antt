@@ -1,6 +1,6 @@
 -- A restart, circuit by circuit: each region is brought up once, and every other stays.
 use Rattle.std.proofs.Common.{◌≡◌, ◌≢◌, ℕ, ◌+◌, ◌<◌, ◌≤◌, Bool, true, false, List, length, get_or, refl, sym, ap, subst, ◌∙◌, arith}
-use Rattle.std.specs.Prelude.{◌==◌, All, Option, Some, None, slice_get, slice_set}
+use Rattle.std.specs.Prelude.{◌==◌, All, IfSome, Option, Some, None, slice_get, slice_set}
 use Rattle.std.proofs.lemmas.List.{get_or-set_same, get_or-set_other}
 use Rattle.std.proofs.lemmas.Option.{get_or_from_slice_get, same_Some, slice_get_within}
 use Rattle.config.specs.CircuitPart.{CircuitPart}
@@ -9,7 +9,8 @@ use Rattle.lease_disk.specs.Device.{Device, ChangesOne}
 use Rattle.lease_disk.specs.Region.{Region}
 use Rattle.circuit_server.specs.Leases.{IsRegionMigrated, counts_of, found_leases, region_leases}
 use Rattle.dispatch.specs.Regions.{AreRegionsMigrated, KeepsOthers}
-use Rattle.circuit_server.specs.CircuitServerValue.{CircuitServerValue, IsReady, IsReadyFor, OpenCircuitValue, leases_of}
+use Rattle.circuit_server.specs.CircuitServerValue.{CircuitServerValue, HasSettledRegion, IsReady, IsReadyFor, OpenCircuitValue, leases_of}
+use Rattle.circuit_server.specs.Restarted.{SettlesOne}
 use Rattle.dispatch.specs.ServerValue.{with_states}
 use Rattle.circuit_server.specs.Ticked.{server_state}
 use Rattle.dispatch.proofs.WithStates.{at_index, get_with, server, size_with, there_is}
@@ -119,3 +120,33 @@ module _ (parts : List CircuitPart) (n : ℕ) (states : List (Option OpenCircuit
 
   pub all_regions : AreRegionsMigrated parts first now
   all_regions = all_parts (λ part. IsRegionMigrated (counts_of part) (first.failing_call part.region) (first.region part.region) (now.region part.region)) parts (λ c part there. (each_up c part there).region)
+
+-- ---- Regions are settled one after the other, and none comes to be in doubt again.
+
+-- those of the first n circuits, where they are open
+abbrev pub FirstSettled : List CircuitPart → ℕ → List (Option OpenCircuitValue) → (ℕ → Bool) → Type 0
+FirstSettled parts n states doubt = (c : ℕ) (part : CircuitPart) → c < n → slice_get parts c ≡ Some part → IfSome (server_state states c) (λ o. doubt part.region ≡ false)
+
+still_settled : (state : Option OpenCircuitValue) (before after : Bool) → (before ≡ false → after ≡ false) → IfSome state (λ o. before ≡ false) → IfSome state (λ o. after ≡ false)
+still_settled None before after stays was = tt
+still_settled (Some o) before after stays was = stays was
+
+pub one_more_settled : (parts : List CircuitPart) → RegionsDiffer parts → (n : ℕ) (part : CircuitPart) → slice_get parts n ≡ Some part → (states : List (Option OpenCircuitValue)) → n < length states → (new : Option OpenCircuitValue)
+    (now next : ℕ → Bool) → FirstSettled parts n states now → SettlesOne part.region new now next → FirstSettled parts (n + 1) (slice_set states n new) next
+one_more_settled parts differ n part here states within new now next are one c other h there = by (c == n) refl where
+  by : (b : Bool) → (c == n) ≡ b → IfSome (server_state (slice_set states n new) c) (λ o. next other.region ≡ false)
+  by true e =
+      let is : c ≡ n = grind (arith, e) in
+      let same : part ≡ other = same_Some part other (sym here ∙ ap (slice_get parts) (sym is) ∙ there) in
+      subst (λ (p : CircuitPart). IfSome (server_state (slice_set states n new) c) (λ o. next p.region ≡ false)) same
+      (subst (λ (s : Option OpenCircuitValue). IfSome s (λ o. next part.region ≡ false)) (sym (ap (server_state (slice_set states n new)) is ∙ get_or-set_same states n new None within)) one.settled)
+  by false e =
+      let ne : c ≡ n → ⊥ = λ is. absurd (grind (arith, e, is)) in
+      let less : c < n = omega (arith, ne, h) in
+      subst (λ (s : Option OpenCircuitValue). IfSome s (λ o. next other.region ≡ false)) (sym (get_or-set_other states n c new None ne))
+      (still_settled (server_state states c) (now other.region) (next other.region) (one.stay other.region (λ same. ne (differ c n other part there here same))) (are c other less there))
+
+pub all_have_settled : (parts : List CircuitPart) (n : ℕ) (states : List (Option OpenCircuitValue)) (doubt : ℕ → Bool) → length states ≡ length parts → length parts ≤ n → FirstSettled parts n states doubt
+    → All (HasSettledRegion doubt) (with_states parts states)
+all_have_settled parts n states doubt size all are =
+    all_with (HasSettledRegion doubt) parts states size (λ c part there. let within = slice_get_within parts c part there in are c part (omega (arith, within, all)) there)

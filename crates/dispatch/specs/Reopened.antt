@@ -1,11 +1,13 @@
 -- What the server makes of one circuit that it opens again, and of all others.
 use Rattle.std.specs.Prelude.{◌≡◌, ◌≢◌, ◌<◌, ◌+◌, ◌*◌, ℕ, Bool, true, Some, IfSome, All, slice_get}
 use Rattle.types.specs.declared.slots.Slots.{Slots}
-use Rattle.lease_disk.specs.Device.{ChangesOne, Device}
+use Rattle.lease_disk.specs.Device.{ChangesOne, Device, IsCalledWithin}
 use Rattle.timers.specs.Deadlines.{deadline}
 use Rattle.config.specs.CircuitPart.{CircuitPart}
 use Rattle.circuit_server.specs.CircuitServerValue.{open_book}
 use Rattle.circuit_server.specs.Deadlines.{held_in}
+use Rattle.circuit_server.specs.Restarted.{SettlesOne}
+use Rattle.config.specs.Topology.{Topology}
 use Rattle.circuit_server.specs.Leases.{IsRegionMigrated, after_tick, book_in, counts_of, found_leases}
 use Rattle.circuit_server.specs.Server.{book_at}
 use Rattle.circuit_server.specs.Ticked.{IsLater, server_state}
@@ -29,3 +31,11 @@ pub record KeepsOtherCircuits (tells : Bool) (c : ℕ) (server later : ServerVal
   pub states : (d : ℕ) → d ≢ c → slice_get later.states d ≡ slice_get server.states d
   pub books : (d : ℕ) → d ≢ c → slice_get (books_in later) d ≡ slice_get (books_in server) d
   pub leases : tells ≡ true → (d : ℕ) → d ≢ c → slice_get (leases_in new.region later) d ≡ slice_get (leases_in old.region server) d
+
+-- Where the circuit is open, its region is settled, and each other region that was settled still is.
+abbrev pub IsSettledAlone : ℕ → ServerValue → (ℕ → Bool) → (ℕ → Bool) → Type 0
+IsSettledAlone c server old new = IfSome (slice_get server.topology.circuits c) (λ part. SettlesOne part.region (server_state server.states c) old new)
+
+-- The device is called for the circuit of this index, if there is one.
+abbrev pub IsCalledToReopen : ℕ → Topology → Device → Device → Type 0
+IsCalledToReopen c topology old new = IfSome (slice_get topology.circuits c) (λ part. IsCalledWithin 1 5 4 old new)

@@ -1,10 +1,10 @@
 -- What shows of the server in the code.
-use Rattle.std.specs.Prelude.{◌≡◌, ℕ, ◌*◌, List, [], ◌∷◌, length, map, Option, Some, None, All, slice_get}
+use Rattle.std.specs.Prelude.{◌≡◌, ℕ, ◌*◌, Bool, List, [], ◌∷◌, length, map, Option, Some, None, All, slice_get}
 use Rattle.config.specs.CircuitPart.{CircuitPart}
 use Rattle.config.specs.Topology.{IsTopology, Topology}
 use Rattle.lease_disk.specs.Region.{Region}
 use Rattle.timers.specs.Deadlines.{DeadlinesValue}
-use Rattle.circuit_server.specs.CircuitServerValue.{CircuitServerValue, HasFoundBook, HasItsPools, IsReady, OpenCircuitValue, server_book, leases_of}
+use Rattle.circuit_server.specs.CircuitServerValue.{CircuitServerValue, HasFoundBook, HasItsPools, HasSettledRegion, IsReady, OpenCircuitValue, server_book, leases_of}
 use Rattle.circuit_server.specs.Deadlines.{HasDeadlines}
 use Rattle.circuit_server.specs.Leases.{Leases}
 use Rattle.circuit_server.specs.Server.{Book}
@@ -39,6 +39,10 @@ BeginsAsFound s = All HasFoundBook (circuits_in s)
 -- every open circuit's region can be saved to
 abbrev pub AreReady : (ℕ → Region) → ServerValue → Type 0
 AreReady regions s = All (IsReady regions) (circuits_in s)
+
+-- every open circuit's region is settled: what was read of it is on the disk
+abbrev pub HaveSettledRegions : (ℕ → Bool) → ServerValue → Type 0
+HaveSettledRegions doubt s = All (HasSettledRegion doubt) (circuits_in s)
 
 -- what the fields of a server keep: a state for each part, with the slots of its pools
 pub record IsServer (topology : Topology) (states : List (Option OpenCircuitValue)) : Type 0 where

@@ -91,7 +91,7 @@ pub(crate) fn restart_all<D: Disk>(
     requires can { CanRestart D.tells parts.now (D.device disk.old) }
     requires buffer { length buffer.old ≡ 16384 }
     ensures size { length servers.new ≡ length servers.old }
-    ensures restarted { AreRestarted D.tells parts.now servers.new (D.device disk.old) (D.device disk.new) }
+    ensures restarted { AreRestarted D.tells parts.now servers.new (D.device disk.old) (D.device disk.new) (D.doubt disk.new) }
     ensures device { IsRestartOf D.tells parts.now (D.device disk.old) (D.device disk.new) }
     ensures table { IsTableAnew table.old table.new servers.new }
     ensures buffer { length buffer.new ≡ 16384 }

@@ -8,10 +8,10 @@ ghost use Rattle.circuit_server.specs.Deadlines.{held_in};
 ghost use Rattle.circuit_server.specs.SlotsOfPools.{HasItsSlots};
 ghost use Rattle.dispatch.specs.Batch.{is_circuit};
 ghost use Rattle.dispatch.specs.Deadlines.{AllUnchangedOrUntilHeld, AreSetAnew, KeepsDeadlines};
-ghost use Rattle.dispatch.specs.ServerValue.{AreReady, BeginsAsFound, HoldsDeadlines, books_in, circuits_in, leases_in};
+ghost use Rattle.dispatch.specs.ServerValue.{AreReady, BeginsAsFound, HaveSettledRegions, HoldsDeadlines, books_in, circuits_in, leases_in};
 ghost use Rattle.circuit_server.specs.Leases.{Leases, after_tick, found_leases, turned};
 ghost use Rattle.dispatch.specs.Regions.{AreRegionsMigrated, AreSynced, HasRegions, KeepsOthers};
-ghost use Rattle.dispatch.specs.Reopened.{IsReopened, KeepsOtherCircuits};
+ghost use Rattle.dispatch.specs.Reopened.{IsCalledToReopen, IsReopened, IsSettledAlone, KeepsOtherCircuits};
 ghost use Rattle.dispatch.specs.Restarted.{IsOpened, IsRestartOf};
 ghost use Rattle.dispatch.specs.Received.{received, received_leases, received_saves};
 ghost use Rattle.dispatch.specs.ReceivedAlone.{IsFound, IsReceivedAlone};
@@ -20,7 +20,7 @@ ghost use Rattle.circuit_server.specs.Calls.{IsCalledToSaveAt};
 ghost use Rattle.circuit_server.specs.CircuitServerValue.{OpenCircuitValue, kept_slots};
 ghost use Rattle.circuit_server.specs.Ticked.{server_state};
 ghost use Rattle.dispatch.specs.declared.server.OpenFault.TheVariants as fault;
-ghost use Rattle.lease_disk.specs.Device.{WritesAt, has_failed};
+ghost use Rattle.lease_disk.specs.Device.{IsCalledWithin, WritesAt, has_failed};
 ghost use Rattle.types.specs.Delivery.{delivery};
 ghost use Rattle.lease_disk.specs.Region.{IsClean, Region};
 ghost use Rattle.timers.specs.Deadlines.{deadline, entry_after_sweep, is_due};
@@ -138,8 +138,9 @@ impl Server {
             → IfOk result (λ server. AreRegionsMigrated (parts_of config.now) (D.device disk.old) (D.device disk.new)) }
         ensures others { D.tells ≡ true → KeepsOthers (parts_of config.now) (D.device disk.old) (D.device disk.new) }
         ensures count { (D.device disk.new).count ≡ (D.device disk.old).count }
-        ensures reads { (D.device disk.new).reads ≤ (D.device disk.old).reads + 5 * length config.now.circuits }
-        ensures writes { (D.device disk.new).writes ≤ (D.device disk.old).writes + 4 * length config.now.circuits }
+        ensures calls { let n = length config.now.circuits in
+            IfOk result (λ server. IsCalledWithin n (5 * n) (4 * n) (D.device disk.old) (D.device disk.new)) }
+        ensures settled { IfOk result (λ server. HaveSettledRegions (D.doubt disk.new) server) }
     {
         let Ok(circuits) = Circuits::of(alloc, config) else {
             return Err(OpenFault::Memory);
@@ -173,8 +174,9 @@ impl Server {
             AreRegionsMigrated (parts_of plans.now.union) (D.device disk.old) (D.device disk.new)) }
         ensures others { D.tells ≡ true → KeepsOthers (parts_of plans.now.union) (D.device disk.old) (D.device disk.new) }
         ensures count { (D.device disk.new).count ≡ (D.device disk.old).count }
-        ensures reads { (D.device disk.new).reads ≤ (D.device disk.old).reads + 5 * length plans.now.union.circuits }
-        ensures writes { (D.device disk.new).writes ≤ (D.device disk.old).writes + 4 * length plans.now.union.circuits }
+        ensures calls { let n = length plans.now.union.circuits in
+            IfOk result (λ server. IsCalledWithin n (5 * n) (4 * n) (D.device disk.old) (D.device disk.new)) }
+        ensures settled { IfOk result (λ server. HaveSettledRegions (D.doubt disk.new) server) }
     {
         let Ok(circuits) = Circuits::of_plans(alloc, plans) else {
             return Err(OpenFault::Memory);
@@ -188,7 +190,8 @@ impl Server {
         requires sound { IsTopology circuits }
         requires synced { D.tells ≡ true → AreSynced circuits.circuits (D.device disk.old).region }
         ensures topology { IfOk result (λ server. server.topology ≡ circuits) }
-        ensures opened { IfOk result (λ server. IsOpened D.tells circuits.circuits server (D.device disk.old) (D.device disk.new)) }
+        ensures opened { IfOk result (λ server.
+            IsOpened D.tells circuits.circuits server (D.device disk.old) (D.device disk.new) (D.doubt disk.new)) }
         ensures small { IfErr result (λ why. why ≡ fault.DiskTooSmall → ¬ HasRegions circuits.circuits (D.device disk.old).count) }
         ensures untouched { OnErr result (D.device disk.new ≡ D.device disk.old) }
         ensures device { IsRestartOf D.tells circuits.circuits (D.device disk.old) (D.device disk.new) }
@@ -429,8 +432,9 @@ impl Server {
         ensures regions { D.tells ≡ true → AreRegionsMigrated self.old.topology.circuits (D.device disk.old) (D.device disk.new) }
         ensures others { D.tells ≡ true → KeepsOthers self.old.topology.circuits (D.device disk.old) (D.device disk.new) }
         ensures count { (D.device disk.new).count ≡ (D.device disk.old).count }
-        ensures reads { (D.device disk.new).reads ≤ (D.device disk.old).reads + 5 * length self.old.topology.circuits }
-        ensures writes { (D.device disk.new).writes ≤ (D.device disk.old).writes + 4 * length self.old.topology.circuits }
+        ensures calls { let n = length self.old.topology.circuits in
+            IsCalledWithin n (5 * n) (4 * n) (D.device disk.old) (D.device disk.new) }
+        ensures settled { HaveSettledRegions (D.doubt disk.new) self.new }
     {
         // each begins with the clock that its region keeps, however late the last tick was
         self.ticked = Moment::first();
@@ -458,8 +462,8 @@ impl Server {
         ensures ready { D.tells ≡ true → AreReady (D.device disk.old).region self.old → AreReady (D.device disk.new).region self.new }
         ensures others { KeepsOtherCircuits D.tells circuit self.old self.new (D.device disk.old) (D.device disk.new) }
         ensures deadlines { KeepsDeadlines (λ c. c == circuit) self.old.deadlines self.new.deadlines }
-        ensures reads { (D.device disk.new).reads ≤ (D.device disk.old).reads + 5 }
-        ensures writes { (D.device disk.new).writes ≤ (D.device disk.old).writes + 4 }
+        ensures calls { IsCalledToReopen circuit self.old.topology (D.device disk.old) (D.device disk.new) }
+        ensures settled { IsSettledAlone circuit self.new (D.doubt disk.old) (D.doubt disk.new) }
     {
         let index = circuit.index();
         if index >= self.servers.len() {

@@ -19,11 +19,13 @@ impl UnknownDisk {
 
 impl Disk for UnknownDisk {
     ghost use Rattle.std.specs.Prelude.{false};
-    ghost use Rattle.lease_disk.specs.Model.{device_of};
+    ghost use Rattle.lease_disk.specs.Model.{device_of, nothing_in_doubt};
 
     ghost tells = { false };
 
     ghost device = { λ d. device_of d.disk };
+
+    ghost doubt = { λ d. nothing_in_doubt d.disk };
 
     fn regions(&self) -> u16 {
         self.disk.regions()

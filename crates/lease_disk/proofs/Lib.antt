@@ -18,3 +18,4 @@ pub mod Moved
 pub mod Moves
 pub mod Listed
 pub mod SyncedLemmas
+pub mod DoubtLemmas

@@ -56,6 +56,43 @@ pub record TouchesAll (tells : Bool) (regions : List ℕ) (old new : Device) : T
 abbrev pub set_faults : {T E : Type 0} → List ℕ → Result T E → (ℕ → ℕ) → ℕ → ℕ
 set_faults regions result failures = if is_ok result then failures else (λ q. if is_in regions q then failures q + 1 else failures q)
 
+-- ---- Whether what a read of a region gives may not be on the disk, although no write since would say so: a region is settled where
+-- that can't be.
+
+-- no settled region comes to be in doubt
+abbrev pub StaySettled : (ℕ → Bool) → (ℕ → Bool) → Type 0
+StaySettled old new = (q : ℕ) → old q ≡ false → new q ≡ false
+
+-- but this one
+abbrev pub OthersStaySettled : ℕ → (ℕ → Bool) → (ℕ → Bool) → Type 0
+OthersStaySettled r old new = (q : ℕ) → q ≢ r → old q ≡ false → new q ≡ false
+
+-- but these
+abbrev pub RestStaysSettled : List ℕ → (ℕ → Bool) → (ℕ → Bool) → Type 0
+RestStaysSettled regions old new = (q : ℕ) → is_in regions q ≡ false → old q ≡ false → new q ≡ false
+
+-- these are settled
+abbrev pub AreSettled : List ℕ → (ℕ → Bool) → Type 0
+AreSettled regions doubt = (q : ℕ) → is_in regions q ≡ true → doubt q ≡ false
+
+-- no settled region comes to be in doubt but this one, and it only by a fault
+pub record KeepsSettled {T E : Type 0} (r : ℕ) (result : Result T E) (old new : ℕ → Bool) : Type 0 where
+  pub settled : OnOk result (StaySettled old new)
+  pub stay : OthersStaySettled r old new
+
+-- after Ok this region is settled, and each other one that was settled still is
+pub record SettlesItsRegion {T E : Type 0} (r : ℕ) (result : Result T E) (old new : ℕ → Bool) : Type 0 where
+  pub settled : OnOk result (new r ≡ false)
+  pub stay : OthersStaySettled r old new
+
+-- ---- How often a device was called.
+
+-- by so many reads at least and at most, and by so many writes and syncs at most
+pub record IsCalledWithin (fewest most calls : ℕ) (old new : Device) : Type 0 where
+  pub least : old.reads + fewest ≤ new.reads
+  pub reads : new.reads ≤ old.reads + most
+  pub writes : new.writes ≤ old.writes + calls
+
 -- writes one region, or nothing at all
 abbrev pub WritesAt : Bool → Option ℕ → Device → Device → Type 0
 WritesAt tells None old new = new ≡ old

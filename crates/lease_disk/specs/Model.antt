@@ -1,5 +1,5 @@
 -- A device in memory, by its fields.
-use Rattle.std.specs.Prelude.{◌≡◌, ◌≢◌, ℕ, ◌||◌, false, List, [], length, slice_index, slice_index_or}
+use Rattle.std.specs.Prelude.{◌≡◌, ◌≢◌, ℕ, ◌||◌, Bool, false, List, [], length, slice_index, slice_index_or}
 use Rattle.lease_disk.specs.declared.model_disk.Stored.{Stored}
 use Rattle.lease_disk.specs.Device.{Device}
 use Rattle.lease_disk.specs.Failures.{count_in}
@@ -35,6 +35,10 @@ failing_call_of disk region = slice_index disk.failing_calls region
 -- the device as the contracts of every device see it
 abbrev pub device_of : ModelDiskValue → Device
 device_of disk = record { count = length disk.regions; region = disk_region disk; failing_call = failing_call_of disk; reads = disk.reads; writes = disk.writes; failures = count_in disk.failures }
+
+-- what reads give is what the device has
+abbrev pub nothing_in_doubt : ModelDiskValue → ℕ → Bool
+nothing_in_doubt disk region = false
 
 -- a region after a write of n bytes that failed
 abbrev pub left_in_doubt : ℕ → ℕ → Region → Region

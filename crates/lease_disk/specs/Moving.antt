@@ -50,11 +50,13 @@ move_faults r (Err DiskFault) failures = one_more_at r failures
 abbrev pub move_calls : List ℕ → Region → ℕ
 move_calls counts r = if moves counts r then 4 else 0
 
--- A move makes so many writes and syncs of region r, and none after one that fails.
+-- A move makes so many writes and syncs of region r, and none after one that fails, and one to three reads.
 pub record MakesMoveCalls {T : Type 0} (tells : Bool) (counts : List ℕ) (r : ℕ) (result : Result T RecoverFault) (old new : Device) : Type 0 where
   pub failing_call : tells ≡ true → OnOk result (new.failing_call r ≡ old.failing_call r - move_calls counts (old.region r))
   pub writes : tells ≡ true → OnOk result (new.writes ≡ old.writes + move_calls counts (old.region r))
   pub most : new.writes ≤ old.writes + 4
+  pub least : old.reads + 1 ≤ new.reads
+  pub reads : new.reads ≤ old.reads + 3
   pub last : tells ≡ true → moves counts (old.region r) ≡ true → OnErr result (new.writes ≡ old.writes + old.failing_call r)
   pub failures : new.failures ≡ move_faults r result old.failures
 

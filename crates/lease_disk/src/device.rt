@@ -1,6 +1,7 @@
 //! Devices that keep regions.
 ghost use Rattle.std.specs.List.{list_any};
-ghost use Rattle.std.specs.Prelude.{◌≡◌, ℕ, Bool, true, not, ◌+◌, ◌-◌, ◌==◌, ◌<◌, ◌≤◌, length, is_ok, OnOk, OnErr};
+ghost use Rattle.std.specs.Prelude.{◌≡◌, ℕ, Bool, true, false, not, ◌+◌, ◌-◌, ◌==◌, ◌<◌, ◌≤◌, length, is_ok, OnOk, OnErr};
+ghost use Rattle.lease_disk.specs.Device.{AreSettled, KeepsSettled, OthersStaySettled, RestStaysSettled};
 ghost use Rattle.lease_disk.specs.Device.{Device, Touches, TouchesAll, TouchesNothing, is_in, set_faults};
 ghost use Rattle.lease_disk.specs.Region.{IsRead, IsTorn, written, synced, faults_after};
 
@@ -26,11 +27,17 @@ pub trait Disk {
     /// The device as contracts see it.
     ghost device: { Self → Device };
 
+    /// Of each region, whether what a read gives may not be on the disk, although no write since would
+    /// say so: a sync that failed may have left it so, of this program or of an earlier one. Such a region
+    /// is in doubt, and any other one is settled.
+    ghost doubt: { Self → ℕ → Bool };
+
     /// How many regions there are; the first is 0.
     fn regions(&self) -> u16
         ensures { result ≡ (device self.now).count };
 
-    /// Fills `out` with the bytes of a region from an offset on. At an error `out` holds any bytes.
+    /// Fills `out` with the bytes of a region from an offset on. At an error `out` holds any bytes. What was read of
+    /// a region in doubt is on the disk.
     fn read(&mut self, region: u16, at: usize, out: &mut [u8]) -> Result<(), Fault>
         requires exists { region < (device self.old).count }
         requires fits { at + length out.old ≤ 32768 }
@@ -38,7 +45,9 @@ pub trait Disk {
         ensures answer { tells ≡ true → is_ok result ≡ ((device self.old).region region).readable }
         ensures frame { TouchesNothing tells (device self.old) (device self.new) }
         ensures reads { (device self.new).reads ≡ (device self.old).reads + 1 }
-        ensures failures { (device self.new).failures ≡ faults_after region result (device self.old).failures };
+        ensures failures { (device self.new).failures ≡ faults_after region result (device self.old).failures }
+        ensures settled { OnOk result (doubt self.new region ≡ false) }
+        ensures stay { OthersStaySettled region (doubt self.old) (doubt self.new) };
 
     /// Writes bytes to a region from an offset on. After a fault a read of this range may give any
     /// bytes, and so may a crash.
@@ -52,7 +61,8 @@ pub trait Disk {
         ensures failing_call { tells ≡ true → (device self.new).failing_call region ≡ (device self.old).failing_call region - 1 }
         ensures frame { Touches tells region (device self.old) (device self.new) }
         ensures writes { (device self.new).writes ≡ (device self.old).writes + 1 }
-        ensures failures { (device self.new).failures ≡ faults_after region result (device self.old).failures };
+        ensures failures { (device self.new).failures ≡ faults_after region result (device self.old).failures }
+        ensures settled { KeepsSettled region result (doubt self.old) (doubt self.new) };
 
     /// Makes what was written to a region outlive a crash.
     fn sync(&mut self, region: u16) -> Result<(), Fault>
@@ -63,7 +73,9 @@ pub trait Disk {
         ensures failing_call { tells ≡ true → (device self.new).failing_call region ≡ (device self.old).failing_call region - 1 }
         ensures frame { Touches tells region (device self.old) (device self.new) }
         ensures writes { (device self.new).writes ≡ (device self.old).writes + 1 }
-        ensures failures { (device self.new).failures ≡ faults_after region result (device self.old).failures };
+        ensures failures { (device self.new).failures ≡ faults_after region result (device self.old).failures }
+        ensures settled { OnOk result (doubt self.new region ≡ false) }
+        ensures stay { OthersStaySettled region (doubt self.old) (doubt self.new) };
 
     /// Makes what was written to each of these regions outlive a crash, by one call. For each of them it is a sync.
     fn sync_set(&mut self, regions: &[u16]) -> Result<(), Fault>
@@ -77,5 +89,7 @@ pub trait Disk {
             → (device self.new).failing_call r ≡ (device self.old).failing_call r - 1 }
         ensures frame { TouchesAll tells regions.now (device self.old) (device self.new) }
         ensures writes { (device self.new).writes ≡ (device self.old).writes + 1 }
-        ensures failures { (device self.new).failures ≡ set_faults regions.now result (device self.old).failures };
+        ensures failures { (device self.new).failures ≡ set_faults regions.now result (device self.old).failures }
+        ensures settled { OnOk result (AreSettled regions.now (doubt self.new)) }
+        ensures stay { RestStaysSettled regions.now (doubt self.old) (doubt self.new) };
 }

@@ -1,6 +1,6 @@
 //! Which format a region has.
-ghost use Rattle.std.specs.Prelude.{◌≡◌, ◌<◌, ◌+◌, true, is_ok, IfOk};
-ghost use Rattle.lease_disk.specs.Device.{TouchesNothing};
+ghost use Rattle.std.specs.Prelude.{◌≡◌, ◌<◌, ◌+◌, true, false, is_ok, IfOk, OnOk};
+ghost use Rattle.lease_disk.specs.Device.{OthersStaySettled, TouchesNothing};
 ghost use Rattle.lease_disk.specs.Layout.{is_format2};
 ghost use Rattle.lease_disk.specs.Region.{faults_after};
 
@@ -23,6 +23,8 @@ pub fn read_format<D: Disk>(region: u16, disk: &mut D) -> Result<u8, Fault>
     ensures frame { TouchesNothing D.tells (D.device disk.old) (D.device disk.new) }
     ensures reads { (D.device disk.new).reads ≡ (D.device disk.old).reads + 1 }
     ensures failures { (D.device disk.new).failures ≡ faults_after region result (D.device disk.old).failures }
+    ensures settled { OnOk result (D.doubt disk.new region ≡ false) }
+    ensures stay { OthersStaySettled region (D.doubt disk.old) (D.doubt disk.new) }
 {
     let mut bytes = [0; 1];
     disk.read(region, FORMAT_AT, &mut bytes)?;
@@ -37,6 +39,8 @@ pub(crate) fn has_format2<D: Disk>(region: u16, disk: &mut D) -> Result<bool, Fa
     ensures frame { TouchesNothing D.tells (D.device disk.old) (D.device disk.new) }
     ensures reads { (D.device disk.new).reads ≡ (D.device disk.old).reads + 1 }
     ensures failures { (D.device disk.new).failures ≡ faults_after region result (D.device disk.old).failures }
+    ensures settled { OnOk result (D.doubt disk.new region ≡ false) }
+    ensures stay { OthersStaySettled region (D.doubt disk.old) (D.doubt disk.new) }
 {
     let format = read_format(region, disk)?;
     Ok(format == FORMAT)

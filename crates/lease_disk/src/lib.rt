@@ -4,6 +4,7 @@
 mod bytes;
 mod content;
 mod device;
+mod doubts;
 mod entry;
 mod failures;
 mod file_disk;

@@ -1,6 +1,6 @@
 //! Moving a region from format 1 to format 2.
-ghost use Rattle.std.specs.Prelude.{◌≡◌, ◌<◌, ◌≤◌, ◌+◌, ◌∷◌, [], ℕ, true, false, length, is_ok, slice_index, IfErr, OnOk, OnErr};
-ghost use Rattle.lease_disk.specs.Device.{ChangesOne, MakesCalls, Touches};
+ghost use Rattle.std.specs.Prelude.{◌≡◌, ◌<◌, ◌≤◌, ◌∷◌, [], ℕ, true, false, length, is_ok, slice_index, IfErr, OnOk, OnErr};
+ghost use Rattle.lease_disk.specs.Device.{ChangesOne, KeepsSettled, MakesCalls, SettlesItsRegion, Touches};
 ghost use Rattle.lease_disk.specs.HalfBytes.{half_bytes};
 ghost use Rattle.lease_disk.specs.Keys.{HasKey};
 ghost use Rattle.lease_disk.specs.Moving.{IsHalfMoved, IsMigrated, MakesMoveCalls, content_at, moved_half, moves, refusal, succeeds};
@@ -55,6 +55,7 @@ fn write_moved<D: Disk>(region: u16, disk: &mut D, halves: &[u8]) -> Result<(), 
         ((D.device disk.old).region region) ((D.device disk.new).region region)) }
     ensures frame { Touches D.tells region (D.device disk.old) (D.device disk.new) }
     ensures calls { MakesCalls D.tells 4 region result (D.device disk.old) (D.device disk.new) }
+    ensures doubt { KeepsSettled region result (D.doubt disk.old) (D.doubt disk.new) }
 {
     write_synced(region, disk, HALVES_AT, halves)?;
     write_synced(region, disk, FORMAT_AT, &[FORMAT])
@@ -83,8 +84,8 @@ pub fn migrate<D: Disk>(
         → IsMigrated counts ((D.device disk.old).failing_call region) ((D.device disk.old).region region)
         ((D.device disk.new).region region) }
     ensures frame { ChangesOne D.tells region (D.device disk.old) (D.device disk.new) }
-    ensures reads { (D.device disk.new).reads ≤ (D.device disk.old).reads + 3 }
     ensures calls { MakesMoveCalls D.tells counts region result (D.device disk.old) (D.device disk.new) }
+    ensures doubt { SettlesItsRegion region result (D.doubt disk.old) (D.doubt disk.new) }
 {
     let Ok(two) = has_format2(region, disk) else {
         return Err(RecoverFault::DiskFault);

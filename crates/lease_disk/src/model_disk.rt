@@ -218,14 +218,16 @@ impl ModelDisk {
 }
 
 impl Disk for ModelDisk {
-    ghost use Rattle.std.specs.Prelude.{◌≡◌, ◌+◌, ◌-◌, ◌==◌, ◌<◌, ◌≤◌, not, true, length, is_ok, OnOk, OnErr};
-    ghost use Rattle.lease_disk.specs.Device.{Touches};
-    ghost use Rattle.lease_disk.specs.Model.{device_of, left_in_doubt, disk_region};
+    ghost use Rattle.std.specs.Prelude.{◌≡◌, ◌+◌, ◌-◌, ◌==◌, ◌<◌, ◌≤◌, not, true, false, length, is_ok, OnOk, OnErr};
+    ghost use Rattle.lease_disk.specs.Device.{KeepsSettled, Touches};
+    ghost use Rattle.lease_disk.specs.Model.{device_of, left_in_doubt, disk_region, nothing_in_doubt};
     ghost use Rattle.lease_disk.specs.Region.{IsTorn, faults_after, written};
 
     ghost tells = { true };
 
     ghost device = { device_of };
+
+    ghost doubt = { nothing_in_doubt };
 
     fn regions(&self) -> u16 {
         self.regions.len() as u16
@@ -254,6 +256,7 @@ impl Disk for ModelDisk {
         ensures frame { Touches true region (device_of self.old) (device_of self.new) }
         ensures writes { (device_of self.new).writes ≡ (device_of self.old).writes + 1 }
         ensures failures { (device_of self.new).failures ≡ faults_after region result (device_of self.old).failures }
+        ensures settled { KeepsSettled region result (nothing_in_doubt self.old) (nothing_in_doubt self.new) }
         // and the bytes stay after a fault
         ensures left_in_doubt { OnErr result
             (disk_region self.new region ≡ left_in_doubt at (length bytes.now) (disk_region self.old region)) }

@@ -1,7 +1,7 @@
 //! Reading back what a region holds.
-ghost use Rattle.std.specs.Prelude.{◌≡◌, ◌≤◌, ◌<◌, ◌+◌, true, is_ok, slice_index, option_map, IfOk, IfSome};
+ghost use Rattle.std.specs.Prelude.{◌≡◌, ◌<◌, ◌+◌, true, false, is_ok, slice_index, option_map, IfOk, IfSome, OnOk};
 ghost use Rattle.lease_disk.specs.Book.{IsBook};
-ghost use Rattle.lease_disk.specs.Device.{TouchesNothing};
+ghost use Rattle.lease_disk.specs.Device.{IsCalledWithin, OthersStaySettled, SettlesItsRegion, TouchesNothing};
 ghost use Rattle.lease_disk.specs.Halves.{AreHalves};
 ghost use Rattle.lease_disk.specs.Layout as layout;
 ghost use Rattle.lease_disk.specs.Recover.{Answers, recover_faults};
@@ -56,6 +56,8 @@ fn read_all_halves<D: Disk>(
     ensures frame { TouchesNothing D.tells (D.device disk.old) (D.device disk.new) }
     ensures reads { (D.device disk.new).reads ≡ (D.device disk.old).reads + 1 }
     ensures failures { (D.device disk.new).failures ≡ faults_after region result (D.device disk.old).failures }
+    ensures settled { OnOk result (D.doubt disk.new region ≡ false) }
+    ensures stay { OthersStaySettled region (D.doubt disk.old) (D.doubt disk.new) }
 {
     if is_format2 {
         read_halves(region, disk)
@@ -78,7 +80,8 @@ fn read_region<D: Disk>(
     ensures book { IfOk result (λ found. IfSome found (λ f. IsBook counts f.0)) }
     ensures answer { D.tells ≡ true → is_ok result ≡ ((D.device disk.old).region region).readable }
     ensures frame { TouchesNothing D.tells (D.device disk.old) (D.device disk.new) }
-    ensures reads { (D.device disk.new).reads ≤ (D.device disk.old).reads + 2 }
+    ensures calls { IsCalledWithin 1 2 0 (D.device disk.old) (D.device disk.new) }
+    ensures doubt { SettlesItsRegion region result (D.doubt disk.old) (D.doubt disk.new) }
     ensures failures { (D.device disk.new).failures ≡ faults_after region result (D.device disk.old).failures }
 {
     let is_format2 = has_format2(region, disk)?;
@@ -101,7 +104,8 @@ pub fn recover<D: Disk>(
     ensures answer { D.tells ≡ true → Answers counts ((D.device disk.old).region region) result }
     ensures book { IfOk result (λ found. IsBook counts found.0) }
     ensures frame { TouchesNothing D.tells (D.device disk.old) (D.device disk.new) }
-    ensures reads { (D.device disk.new).reads ≤ (D.device disk.old).reads + 2 }
+    ensures calls { IsCalledWithin 1 2 0 (D.device disk.old) (D.device disk.new) }
+    ensures doubt { SettlesItsRegion region result (D.doubt disk.old) (D.doubt disk.new) }
     ensures failures { (D.device disk.new).failures ≡ recover_faults region result (D.device disk.old).failures }
 {
     match read_region(region, disk, counts) {

@@ -3,7 +3,8 @@ ghost use Rattle.std.specs.Prelude.{◌≡◌, ◌≢◌, ◌≤◌, ◌<◌, �
 ghost use Rattle.opening.specs.declared.device.DeviceFault.TheVariants as fault;
 ghost use Rattle.settings.specs.declared.settings.CircuitConfig.{CircuitConfig};
 ghost use Rattle.lease_disk.specs.Crash.{IsFormatted};
-ghost use Rattle.lease_disk.specs.FileDisk.{uncalled};
+ghost use Rattle.lease_disk.specs.Device.{StaySettled};
+ghost use Rattle.lease_disk.specs.FileDisk.{doubt_of, uncalled};
 
 use config::Config;
 use dispatch::region_count;
@@ -60,6 +61,20 @@ pub fn open_device<R: Files<File = File>>(rt: &R, path: &str) -> Result<FileDisk
     ensures refused { IfErr result (λ why. why ≢ fault.Format) }
 {
     FileDisk::open(rt, path).map_err(fault_of)
+}
+
+/// Writes back the regions of all circuits, and syncs once: an earlier program may have left in a file what its reads give
+/// and its disk has not. A region for which that fails is tried again when it is read.
+pub fn settle_regions(config: &Config, disk: &mut FileDisk)
+    ensures stay { StaySettled (doubt_of disk.old) (doubt_of disk.new) }
+    ensures rest { disk.new ≡ record disk.old { doubts = disk.new.doubts } }
+{
+    let count = config.circuit_count();
+    let mut regions = [0; 1024];
+    'circuits: for index in 0..count {
+        regions[index] = config.at(Circuit::at(index)).region;
+    }
+    disk.settle(&regions[..count]);
 }
 
 /// Makes the file, where there is none, or lengthens it, and formats the region of each circuit: all

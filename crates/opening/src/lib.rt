@@ -4,5 +4,5 @@
 mod device;
 mod opening;
 
-pub use device::{DeviceFault, device_of, format_device, open_device};
+pub use device::{DeviceFault, device_of, format_device, open_device, settle_regions};
 pub use opening::{Formats, open_server};

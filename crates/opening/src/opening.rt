@@ -1,10 +1,10 @@
 //! Opening the server over a device, some of whose regions may be of the format of an earlier version.
 ghost use Rattle.std.specs.Prelude.{◌≡◌, ◌≤◌, ◌+◌, ◌*◌, true, length, IfOk, IfErr, OnErr};
-ghost use Rattle.opening.specs.Opening.{IsCalledToOpen, format_of, formats_of};
+ghost use Rattle.opening.specs.Opening.{BeginsAsSettled, IsCalledToOpen, format_of, formats_of};
 ghost use Rattle.config.specs.CircuitPart.{parts_of};
 ghost use Rattle.config.specs.Topology.{topology_of};
 ghost use Rattle.dispatch.specs.Regions.{AreSynced, HasRegions};
-ghost use Rattle.dispatch.specs.ServerValue.{AreReady, BeginsAsFound};
+ghost use Rattle.dispatch.specs.ServerValue.{AreReady};
 ghost use Rattle.dispatch.specs.declared.server.OpenFault.TheVariants as fault;
 ghost use Rattle.lease_disk.specs.Device.{TouchesNothing};
 
@@ -23,6 +23,7 @@ fn format_of<D: Disk>(region: u16, disk: &mut D) -> Option<u8>
     ensures found { D.tells ≡ true → result ≡ format_of (D.device disk.old) region }
     ensures frame { TouchesNothing D.tells (D.device disk.old) (D.device disk.new) }
     ensures reads { (D.device disk.new).reads ≤ (D.device disk.old).reads + 1 }
+    ensures least { (D.device disk.old).reads ≤ (D.device disk.new).reads }
 {
     if region >= disk.regions() {
         return None;
@@ -36,6 +37,7 @@ fn formats_of<D: Disk>(alloc: Global, config: &Config, disk: &mut D) -> Result<F
     ensures all { IfOk result (λ found. length found.items ≡ length config.now.circuits) }
     ensures frame { TouchesNothing D.tells (D.device disk.old) (D.device disk.new) }
     ensures reads { (D.device disk.new).reads ≤ (D.device disk.old).reads + length config.now.circuits }
+    ensures least { (D.device disk.old).reads ≤ (D.device disk.new).reads }
 {
     let mut found = Vec::with_capacity(alloc, config.circuit_count())?;
     'circuits: for index in 0..config.circuit_count() {
@@ -55,13 +57,13 @@ pub fn open_server<D: Disk>(
     requires synced { D.tells ≡ true → AreSynced (parts_of config.now) (D.device disk.old).region }
     ensures formats { D.tells ≡ true → IfOk result (λ opened. opened.1.items ≡ formats_of (D.device disk.old) config.now.circuits) }
     ensures ready { D.tells ≡ true → IfOk result (λ opened. AreReady (D.device disk.new).region opened.0) }
-    ensures found { IfOk result (λ opened. BeginsAsFound opened.0) }
+    ensures begins { IfOk result (λ opened. BeginsAsSettled (D.doubt disk.new) opened.0) }
     ensures all { IfOk result (λ opened. length opened.1.items ≡ length config.now.circuits) }
     ensures topology { IfOk result (λ opened. opened.0.topology ≡ topology_of config.now) }
     ensures large { IfOk result (λ opened. HasRegions (parts_of config.now) (D.device disk.new).count) }
     ensures small { IfErr result (λ why. why ≡ fault.DiskTooSmall → ¬ HasRegions (parts_of config.now) (D.device disk.old).count) }
     ensures untouched { OnErr result (TouchesNothing D.tells (D.device disk.old) (D.device disk.new)) }
-    ensures calls { IsCalledToOpen (length config.now.circuits) (D.device disk.old) (D.device disk.new) }
+    ensures calls { IsCalledToOpen (length config.now.circuits) result (D.device disk.old) (D.device disk.new) }
 {
     let Ok(formats) = formats_of(alloc, config, disk) else {
         return Err(OpenFault::Memory);

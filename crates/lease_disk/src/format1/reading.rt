@@ -1,6 +1,6 @@
 //! Reading the banks of a region of format 1.
-ghost use Rattle.std.specs.Prelude.{◌≡◌, ◌≤◌, ◌<◌, ◌+◌, ℕ, true, false, length, is_ok, slice_index, IfOk};
-ghost use Rattle.lease_disk.specs.Device.{TouchesNothing};
+ghost use Rattle.std.specs.Prelude.{◌≡◌, ◌≤◌, ◌<◌, ◌+◌, ℕ, true, false, length, is_ok, slice_index, IfOk, OnOk};
+ghost use Rattle.lease_disk.specs.Device.{OthersStaySettled, TouchesNothing};
 ghost use Rattle.lease_disk.specs.Halves.{AreHalves, place};
 ghost use Rattle.lease_disk.specs.Layout.{is_format2};
 ghost use Rattle.lease_disk.specs.Region.{faults_after};
@@ -30,6 +30,8 @@ pub fn read_banks<D: Disk>(region: u16, disk: &mut D) -> Result<[u8; HALVES_SIZE
     ensures frame { TouchesNothing D.tells (D.device disk.old) (D.device disk.new) }
     ensures reads { (D.device disk.new).reads ≡ (D.device disk.old).reads + 1 }
     ensures failures { (D.device disk.new).failures ≡ faults_after region result (D.device disk.old).failures }
+    ensures settled { OnOk result (D.doubt disk.new region ≡ false) }
+    ensures stay { OthersStaySettled region (D.doubt disk.old) (D.doubt disk.new) }
 {
     let mut banks = [0; BANKS_SIZE];
     disk.read(region, 0, &mut banks)?;

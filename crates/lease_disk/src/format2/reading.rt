@@ -1,6 +1,6 @@
 //! Reading the halves of a region of format 2.
-ghost use Rattle.std.specs.Prelude.{◌≡◌, ◌<◌, ◌+◌, ℕ, true, length, is_ok, slice_index, IfOk};
-ghost use Rattle.lease_disk.specs.Device.{TouchesNothing};
+ghost use Rattle.std.specs.Prelude.{◌≡◌, ◌<◌, ◌+◌, ℕ, true, false, length, is_ok, slice_index, IfOk, OnOk};
+ghost use Rattle.lease_disk.specs.Device.{OthersStaySettled, TouchesNothing};
 ghost use Rattle.lease_disk.specs.Halves.{AreHalves};
 ghost use Rattle.lease_disk.specs.Layout.{is_format2};
 ghost use Rattle.lease_disk.specs.Region.{faults_after};
@@ -26,6 +26,8 @@ pub fn read_halves<D: Disk>(region: u16, disk: &mut D) -> Result<[u8; HALVES_SIZ
     ensures frame { TouchesNothing D.tells (D.device disk.old) (D.device disk.new) }
     ensures reads { (D.device disk.new).reads ≡ (D.device disk.old).reads + 1 }
     ensures failures { (D.device disk.new).failures ≡ faults_after region result (D.device disk.old).failures }
+    ensures settled { OnOk result (D.doubt disk.new region ≡ false) }
+    ensures stay { OthersStaySettled region (D.doubt disk.old) (D.doubt disk.new) }
 {
     let mut bytes = [0; HALVES_SIZE];
     disk.read(region, HALVES_AT, &mut bytes)?;

@@ -10,7 +10,7 @@ use Rattle.circuit_server.specs.Deadlines.{OtherEntriesUnchanged, held_in}
 use Rattle.circuit_server.specs.Leases.{found_leases}
 use Rattle.circuit_server.specs.CircuitServerValue.{CircuitServerValue, HasFoundBook, HasItsPools}
 use Rattle.dispatch.specs.ServerValue.{with_states}
-use Rattle.dispatch.proofs.RestartLemmas.{all_leases, all_ready, all_regions, none_up, one_more_up}
+use Rattle.dispatch.proofs.RestartLemmas.{all_have_settled, all_leases, all_ready, all_regions, none_up, one_more_settled, one_more_up}
 use Rattle.dispatch.proofs.ServerLemmas.{all_found}
 use Rattle.dispatch.proofs.WithStates.{parts_with, server, set_with, size_with}
 use Rattle.dispatch.proofs.HeldDeadlines.{all_held, all_set, none_set, set_more}
@@ -29,6 +29,9 @@ more P xs i y within all p =
 
 five_more : (first middle last n : ℕ) → middle ≤ first + 5 * n → last ≤ middle + 5 → last ≤ first + 5 * (n + 1)
 five_more first middle last n h k = omega arith
+
+one_more_read : (first middle last n : ℕ) → first + n ≤ middle → middle + 1 ≤ last → first + (n + 1) ≤ last
+one_more_read first middle last n h k = omega arith
 
 four_more : (first middle last n : ℕ) → middle ≤ first + 4 * n → last ≤ middle + 4 → last ≤ first + 4 * (n + 1)
 four_more first middle last n h k = omega arith
@@ -51,6 +54,8 @@ circuits-init g c = record {
   pools = search rules;
   found = search rules;
   count = refl;
+  settled = λ n part below. absurd (omega (arith, below));
+  least = omega arith;
   reads = omega arith;
   writes = omega arith;
   buffer = c.requires.buffer;
@@ -80,8 +85,10 @@ circuits-preserved g c =
       pools = subst (λ ys. All HasItsPools (take (i + 1) ys)) (sym written) (more HasItsPools xs i new within loop.pools c.restart.ensures.pools);
       found = subst (λ ys. All HasFoundBook (take (i + 1) ys)) (sym written) (more HasFoundBook xs i new within loop.found c.restart.ensures.found);
       count = c.restart.ensures.frame.count ∙ loop.count;
-      reads = five_more _ _ _ i loop.reads c.restart.ensures.reads;
-      writes = four_more _ _ _ i loop.writes c.restart.ensures.writes;
+      settled = one_more_settled parts c.requires.can.differ i part there states inside c.restart.new.self (g.D.Disk.doubt c.circuits.disk) (g.D.Disk.doubt c.restart.new.disk) loop.settled c.restart.ensures.doubt;
+      least = one_more_read _ _ _ i loop.least c.restart.ensures.calls.least;
+      reads = five_more _ _ _ i loop.reads c.restart.ensures.calls.reads;
+      writes = four_more _ _ _ i loop.writes c.restart.ensures.calls.writes;
       buffer = search rules;
       room = entries.size ∙ loop.room;
       deadlines =
@@ -93,6 +100,9 @@ circuits-preserved g c =
 
 pub set_deadlines-requires : goal.set_deadlines-requires
 set_deadlines-requires g c = let at = c.at.ensures in omega (arith, at, c.circuits-test.true, c.circuits.invariant.room)
+
+whole_read : (first last n i : ℕ) → n ≤ i → first + i ≤ last → first + n ≤ last
+whole_read first last n i h k = omega arith
 
 pub returns-clause-table : goal.returns-clause-table
 returns-clause-table g c =
@@ -118,6 +128,8 @@ returns-clause-restarted g c =
           ∙ ap (map (found_leases first.region first.failing_call)) (parts_with parts states);
       ready = λ tells. all_ready parts c.circuits.index states first now size whole (c.circuits.invariant.up tells);
       regions = λ tells. all_regions parts c.circuits.index states first now size whole (c.circuits.invariant.up tells);
+      settled = all_have_settled parts c.circuits.index states (g.D.Disk.doubt c.circuits.disk) size whole c.circuits.invariant.settled;
+      least = whole_read _ _ _ _ whole c.circuits.invariant.least;
     }
 
 pub returns-clause-device : goal.returns-clause-device

@@ -4,6 +4,7 @@ use Rattle.lease_disk.specs.Moving.{IsHalfMoved, moves}
 use Rattle.lease_disk.specs.Recovered.{recovered}
 use Rattle.lease_disk.specs.Region.{Region, effective, synced, written}
 use Rattle.lease_disk.proofs.Moves.{is_half_migrated, is_migrated, is_not_moved, not_answered, not_old}
+use Rattle.lease_disk.proofs.DoubtLemmas.{stay_then}
 use Rattle.lease_disk.proofs.migrating.migrate.Goals as goal
 
 pub returns-in_default-clause-region : goal.returns-in_default-clause-region
@@ -74,3 +75,33 @@ returns-in-Err-clause-region g c = λ tells readable.
     (subst (λ (r : Region). IsHalfMoved ((g.D.Disk.device c.args.disk.now).failing_call c.args.region) c.write_halves.new.halves r ((g.D.Disk.device c.write_moved.new.disk).region c.args.region)) same
     (subst (λ k. IsHalfMoved k c.write_halves.new.halves ((g.D.Disk.device c.recover.new.disk).region c.args.region) ((g.D.Disk.device c.write_moved.new.disk).region c.args.region)) failing_call (c.in-Err.ensures.err tells)))
     (c.in-Err.ensures.calls.answer tells ∙ ap (λ k. effective 4 k == 0) failing_call)
+
+-- what was read is settled, and what is then written stays so where that succeeds
+
+pub returns-in_err-slots-clause-doubt : goal.returns-in_err-slots-clause-doubt
+returns-in_err-slots-clause-doubt g c = record {
+  settled = search rules;
+  stay = stay_then c.args.region (g.D.Disk.doubt c.args.disk.now) (g.D.Disk.doubt c.has_format2.new.disk) (g.D.Disk.doubt c.recover.new.disk) c.in-Ok.ensures.stay c.in_err-slots.ensures.doubt.stay;
+}
+
+pub returns-then-two-clause-doubt : goal.returns-then-two-clause-doubt
+returns-then-two-clause-doubt g c = record {
+  settled = c.in_ok-slots.ensures.doubt.settled;
+  stay = stay_then c.args.region (g.D.Disk.doubt c.args.disk.now) (g.D.Disk.doubt c.has_format2.new.disk) (g.D.Disk.doubt c.recover.new.disk) c.in-Ok.ensures.stay c.in_ok-slots.ensures.doubt.stay;
+}
+
+pub returns-in-Ok-write_moved-clause-doubt : goal.returns-in-Ok-write_moved-clause-doubt
+returns-in-Ok-write_moved-clause-doubt g c =
+    let read = stay_then c.args.region (g.D.Disk.doubt c.args.disk.now) (g.D.Disk.doubt c.has_format2.new.disk) (g.D.Disk.doubt c.recover.new.disk) c.in-Ok.ensures.stay c.in_ok-slots.ensures.doubt.stay in
+    record {
+      settled = c.in-Ok-write_moved.ensures.doubt.settled c.args.region c.in_ok-slots.ensures.doubt.settled;
+      stay = stay_then c.args.region (g.D.Disk.doubt c.args.disk.now) (g.D.Disk.doubt c.recover.new.disk) (g.D.Disk.doubt c.write_moved.new.disk) read c.in-Ok-write_moved.ensures.doubt.stay;
+    }
+
+pub returns-in-Err-clause-doubt : goal.returns-in-Err-clause-doubt
+returns-in-Err-clause-doubt g c =
+    let read = stay_then c.args.region (g.D.Disk.doubt c.args.disk.now) (g.D.Disk.doubt c.has_format2.new.disk) (g.D.Disk.doubt c.recover.new.disk) c.in-Ok.ensures.stay c.in_ok-slots.ensures.doubt.stay in
+    record {
+      settled = search rules;
+      stay = stay_then c.args.region (g.D.Disk.doubt c.args.disk.now) (g.D.Disk.doubt c.recover.new.disk) (g.D.Disk.doubt c.write_moved.new.disk) read c.in-Err.ensures.doubt.stay;
+    }

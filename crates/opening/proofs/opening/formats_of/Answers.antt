@@ -15,6 +15,7 @@ circuits-preserved g c =
       few = loop.few;
       all = search rules;
       frame = nothing_then g.D.Disk.tells (device c.args.disk.now) (device c.circuits.disk) (device c.format_of.new.disk) loop.frame c.format_of.ensures.frame;
+      least = omega (arith, loop.least, c.format_of.ensures.least);
       reads = omega (arith, loop.reads, c.format_of.ensures.reads);
       found = λ told. c.in_ok-push.ensures.items
           ∙ (ap (λ format. c.circuits.found.items ++ format ∷ []) (c.format_of.ensures.found told)

@@ -10,6 +10,7 @@ invariant-circuits g l = record {
   few : l.index-end ≤ 1024;
   all : length l.found.items ≡ l.index;
   frame : TouchesNothing g.D.Disk.tells (g.D.Disk.device l.fn.disk) (g.D.Disk.device l.disk);
+  least : (g.D.Disk.device l.fn.disk).reads ≤ (g.D.Disk.device l.disk).reads;
   reads : (g.D.Disk.device l.disk).reads ≤ (g.D.Disk.device l.fn.disk).reads + l.index;
   found : g.D.Disk.tells ≡ true → l.found.items ≡ formats_of (g.D.Disk.device l.fn.disk) (take l.index l.config.circuits);
 }

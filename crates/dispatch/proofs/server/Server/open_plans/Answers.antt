@@ -1,9 +1,10 @@
-use Rattle.std.proofs.Common.{◌≡◌, length, map, sym, ap, subst, ◌∙◌, arith, Result, Ok, Err}
+use Rattle.std.proofs.Common.{◌≡◌, ℕ, ◌*◌, length, map, sym, ap, subst, ◌∙◌, arith, Result, Ok, Err}
 use Rattle.std.specs.Prelude.{IfErr, IfOk}
 use Rattle.std.proofs.lemmas.List.{length-map}
 use Rattle.config.specs.Plans.{PlansValue}
 use Rattle.config.specs.Topology.{IsTopology, Topology, plans_topology}
 use Rattle.circuit_server.specs.Leases.{found_leases}
+use Rattle.lease_disk.specs.Device.{IsCalledWithin}
 use Rattle.dispatch.specs.Regions.{AreRegionsMigrated, AreSynced, HasRegions, KeepsOthers}
 use Rattle.dispatch.specs.ServerValue.{leases_in}
 use Rattle.dispatch.specs.declared.server.OpenFault.TheVariants as fault
@@ -59,11 +60,15 @@ returns-clause-others g c tells =
     let new = g.D.Disk.device c.over.new.disk in
     subst (λ (t : Topology). KeepsOthers t.circuits old new) c.in-Ok.ensures.topology (c.over.ensures.device.others tells)
 
-pub returns-clause-reads : goal.returns-clause-reads
-returns-clause-reads g c = omega (arith, c.over.ensures.device.reads, same_count c.args.plans.now c.in-Ok.circuits c.in-Ok.ensures.topology)
+pub returns-clause-calls : goal.returns-clause-calls
+returns-clause-calls g c =
+    let old = g.D.Disk.device c.args.disk.now in
+    let new = g.D.Disk.device c.over.new.disk in
+    subst (λ (n : ℕ). IfOk c.over.result (λ server. IsCalledWithin n (5 * n) (4 * n) old new)) (same_count c.args.plans.now c.in-Ok.circuits c.in-Ok.ensures.topology)
+    (IfOk-weaker c.over.result _ _ (λ server opened. record { least = opened.least; reads = c.over.ensures.device.reads; writes = c.over.ensures.device.writes }) c.over.ensures.opened)
 
-pub returns-clause-writes : goal.returns-clause-writes
-returns-clause-writes g c = omega (arith, c.over.ensures.device.writes, same_count c.args.plans.now c.in-Ok.circuits c.in-Ok.ensures.topology)
+pub returns-clause-settled : goal.returns-clause-settled
+returns-clause-settled g c = IfOk-weaker c.over.result _ _ (λ server opened. opened.settled) c.over.ensures.opened
 
 pub returns-clause-ready : goal.returns-clause-ready
 returns-clause-ready g c tells = IfOk-weaker c.over.result _ _ (λ server opened. opened.ready tells) c.over.ensures.opened

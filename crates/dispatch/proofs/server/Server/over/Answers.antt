@@ -39,6 +39,8 @@ returns-clause-opened g c =
           subst (HasRegions c.args.circuits.circuits) (sym c.restart.ensures.count)
           (subst (λ ps. HasRegions ps old.count) parts (subst (HasRegions c.parts.result.now) c.regions.ensures (c.if-not-has_regions.ensures.yes refl)));
       regions = λ tells. subst (λ (t : Topology). AreRegionsMigrated t.circuits old new) c.in-Ok.ensures (c.restart.ensures.regions tells);
+      settled = c.restart.ensures.settled;
+      least = subst (λ (t : Topology). old.reads + length t.circuits ≤ new.reads) c.in-Ok.ensures c.restart.ensures.calls.least;
     }
 
 pub returns-clause-device : goal.returns-clause-device
@@ -48,6 +50,6 @@ returns-clause-device g c =
     record {
       others = λ tells. subst (λ (t : Topology). KeepsOthers t.circuits old new) c.in-Ok.ensures (c.restart.ensures.others tells);
       count = c.restart.ensures.count;
-      reads = subst (λ (t : Topology). new.reads ≤ old.reads + 5 * length t.circuits) c.in-Ok.ensures c.restart.ensures.reads;
-      writes = subst (λ (t : Topology). new.writes ≤ old.writes + 4 * length t.circuits) c.in-Ok.ensures c.restart.ensures.writes;
+      reads = subst (λ (t : Topology). new.reads ≤ old.reads + 5 * length t.circuits) c.in-Ok.ensures c.restart.ensures.calls.reads;
+      writes = subst (λ (t : Topology). new.writes ≤ old.writes + 4 * length t.circuits) c.in-Ok.ensures c.restart.ensures.calls.writes;
     }

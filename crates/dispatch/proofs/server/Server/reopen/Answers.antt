@@ -3,14 +3,16 @@ use Rattle.std.specs.Prelude.{All, IfSome, Option, slice_get}
 use Rattle.config.specs.CircuitPart.{CircuitPart}
 use Rattle.circuit_server.specs.CircuitServerValue.{HasPools, IsReady, IsReadyFor, OpenCircuitValue, open_book}
 use Rattle.circuit_server.specs.Leases.{book_in, found_leases}
+use Rattle.circuit_server.specs.Restarted.{SettlesOne}
 use Rattle.circuit_server.specs.Server.{book_at}
+use Rattle.lease_disk.specs.Device.{IsCalledWithin}
 use Rattle.circuit_server.specs.Deadlines.{held_in}
 use Rattle.circuit_server.specs.Ticked.{server_state, state_at}
 use Rattle.types.specs.declared.slots.Slots.{Slots}
 use Rattle.dispatch.specs.Reopened.{IsReopened, KeepsOtherCircuits}
 use Rattle.dispatch.specs.ServerValue.{ServerValue, circuits_in, with_states}
 use Rattle.dispatch.proofs.OneServer.{still_held, still_sound}
-use Rattle.dispatch.proofs.ReopenLemmas.{all_reached, book_stays, found_later, leases_stay, own_leases, reopened_one, state_stays, still_pools, still_ready}
+use Rattle.dispatch.proofs.ReopenLemmas.{all_reached, book_stays, found_later, leases_stay, own_leases, reopened_one, settled_later, state_stays, still_pools, still_ready}
 use Rattle.dispatch.proofs.ServerLemmas.{written_through}
 use Rattle.dispatch.proofs.TickLemmas.{ready_after_tick}
 use Rattle.dispatch.proofs.server.Server.reopen.Goals as goal
@@ -85,6 +87,28 @@ returns-clause-ready g c tells =
     subst P c.self.view_is
     (still_ready parts before after c.args.circuit part _ left its_one c.part.ensures
     c.self.invariant.0.sound.regions g.D.Disk.tells tells device later c.restart.ensures.frame own)
+
+pub returns-clause-calls : goal.returns-clause-calls
+returns-clause-calls g c =
+    let device = g.D.Disk.device c.args.disk.now in
+    let later = g.D.Disk.device c.restart.new.disk in
+    let P : ServerValue → Type 0 = λ s. IfSome (slice_get s.topology.circuits c.args.circuit) (λ (p : CircuitPart). IsCalledWithin 1 5 4 device later) in
+    subst P c.self.view_is (subst (λ (x : Option CircuitPart). IfSome x (λ p. IsCalledWithin 1 5 4 device later)) (sym c.part.ensures) c.restart.ensures.calls)
+
+pub returns-clause-settled : goal.returns-clause-settled
+returns-clause-settled g c =
+    let part = c.part.result.now in
+    let left = c.tick.new.self in
+    let ticked = c.self.inside.ticked in
+    let servers = c.self.inside.servers.items in
+    let after = map (state_at ticked) (set servers c.index-index.result left) in
+    let its_one = reopened_one ticked servers c.args.circuit c.index-index.result c.restart.new.self left c.index-index.ensures.value (omega (arith, c.if-index-len.false, c.len.ensures)) c.tick.ensures in
+    let old = g.D.Disk.doubt c.args.disk.now in
+    let new = g.D.Disk.doubt c.restart.new.disk in
+    let Q : CircuitPart → Type 0 = λ p. SettlesOne p.region (server_state after c.args.circuit) old new in
+    let done : Q part =
+    subst (λ (x : Option OpenCircuitValue). SettlesOne part.region x old new) (sym (its_one.after ∙ c.tick.ensures)) (settled_later ticked part.region c.restart.new.self old new c.restart.ensures.doubt) in
+    subst (λ (x : Option CircuitPart). IfSome x Q) (sym c.part.ensures) done
 
 pub returns-clause-others : goal.returns-clause-others
 returns-clause-others g c =

@@ -4,7 +4,8 @@ use Rattle.std.proofs.lemmas.List.{length-map}
 use Rattle.config.specs.CircuitPart.{CircuitPart}
 use Rattle.circuit_server.specs.Leases.{found_leases}
 use Rattle.circuit_server.specs.Ticked.{state_at}
-use Rattle.circuit_server.specs.CircuitServerValue.{HasFoundBook, HasItsPools, IsReady, OpenCircuitValue, leases_of}
+use Rattle.circuit_server.specs.CircuitServerValue.{HasFoundBook, HasItsPools, HasSettledRegion, IsReady, OpenCircuitValue, leases_of}
+use Rattle.lease_disk.specs.Device.{IsCalledWithin}
 use Rattle.dispatch.specs.Deadlines.{AreSetAnew}
 use Rattle.dispatch.specs.Regions.{AreRegionsMigrated, AreSynced, KeepsOthers}
 use Rattle.dispatch.specs.Restarted.{CanRestart}
@@ -89,15 +90,17 @@ returns-clause-others g c tells =
 pub returns-clause-count : goal.returns-clause-count
 returns-clause-count g c = c.restart_all.ensures.device.count
 
-pub returns-clause-reads : goal.returns-clause-reads
-returns-clause-reads g c =
-    let count = ap (λ (ps : List CircuitPart). length ps) c.parts.ensures ∙ ap (λ (s : ServerValue). length s.topology.circuits) c.self.view_is in
-    subst (λ (n : ℕ). (g.D.Disk.device c.restart_all.new.disk).reads ≤ (g.D.Disk.device c.args.disk.now).reads + 5 * n) count c.restart_all.ensures.device.reads
+pub returns-clause-settled : goal.returns-clause-settled
+returns-clause-settled g c =
+    let doubt = g.D.Disk.doubt c.restart_all.new.disk in
+    subst (λ xs. All (HasSettledRegion doubt) (with_states c.self.inside.circuits.circuits xs)) (sym (shown g c))
+    (subst (λ ps. All (HasSettledRegion doubt) (with_states ps c.restart_all.new.servers)) c.parts.ensures c.restart_all.ensures.restarted.settled)
 
-pub returns-clause-writes : goal.returns-clause-writes
-returns-clause-writes g c =
+pub returns-clause-calls : goal.returns-clause-calls
+returns-clause-calls g c =
     let count = ap (λ (ps : List CircuitPart). length ps) c.parts.ensures ∙ ap (λ (s : ServerValue). length s.topology.circuits) c.self.view_is in
-    subst (λ (n : ℕ). (g.D.Disk.device c.restart_all.new.disk).writes ≤ (g.D.Disk.device c.args.disk.now).writes + 4 * n) count c.restart_all.ensures.device.writes
+    subst (λ (n : ℕ). IsCalledWithin n (5 * n) (4 * n) (g.D.Disk.device c.args.disk.now) (g.D.Disk.device c.restart_all.new.disk)) count
+    (record { least = c.restart_all.ensures.restarted.least; reads = c.restart_all.ensures.device.reads; writes = c.restart_all.ensures.device.writes })
 
 pub returns-clause-examined : goal.returns-clause-examined
 returns-clause-examined g c = c.restart_all.ensures.table.examined ∙ ap (λ (s : ServerValue). s.deadlines.examined) c.self.view_is

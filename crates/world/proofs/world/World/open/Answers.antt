@@ -1,4 +1,4 @@
-use Rattle.std.proofs.Common.{◌≡◌, ℕ, refl, sym, ap, subst, ◌∙◌}
+use Rattle.std.proofs.Common.{◌≡◌, ℕ, refl, sym, ap, subst, ◌∙◌, arith}
 use Rattle.std.specs.Prelude.{All}
 use Rattle.config.specs.CircuitPart.{CircuitPart, parts_of}
 use Rattle.config.specs.Plans.{one_plan}
@@ -49,3 +49,9 @@ returns-in-Ok-open-clause-others c =
 
 pub returns-in-Ok-open-clause-large : goal.returns-in-Ok-open-clause-large
 returns-in-Ok-open-clause-large c = subst (HasRegions (parts_of c.args.config.now)) c.in-Ok-open.ensures.count c.in-Ok-open.ensures.large
+
+pub returns-in-Ok-open-clause-reads : goal.returns-in-Ok-open-clause-reads
+returns-in-Ok-open-clause-reads c = omega (arith, c.over.ensures.reads, c.in-Ok-open.ensures.calls.reads)
+
+pub returns-in-Ok-open-clause-writes : goal.returns-in-Ok-open-clause-writes
+returns-in-Ok-open-clause-writes c = omega (arith, c.over.ensures.writes, c.in-Ok-open.ensures.calls.writes)

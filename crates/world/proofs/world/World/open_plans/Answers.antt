@@ -1,4 +1,4 @@
-use Rattle.std.proofs.Common.{◌≡◌, ℕ, length, refl, sym, ap, subst, ◌∙◌}
+use Rattle.std.proofs.Common.{◌≡◌, ℕ, length, refl, sym, ap, subst, ◌∙◌, arith}
 use Rattle.std.specs.Prelude.{All}
 use Rattle.config.specs.CircuitPart.{CircuitPart, parts_of}
 use Rattle.settings.specs.Settings.{Settings}
@@ -49,3 +49,9 @@ returns-in-Ok-open_plans-clause-others c =
 
 pub returns-in-Ok-open_plans-clause-large : goal.returns-in-Ok-open_plans-clause-large
 returns-in-Ok-open_plans-clause-large c = subst (HasRegions (parts_of c.args.plans.now.union)) c.in-Ok-open_plans.ensures.count c.in-Ok-open_plans.ensures.large
+
+pub returns-in-Ok-open_plans-clause-reads : goal.returns-in-Ok-open_plans-clause-reads
+returns-in-Ok-open_plans-clause-reads c = omega (arith, c.over.ensures.reads, c.in-Ok-open_plans.ensures.calls.reads)
+
+pub returns-in-Ok-open_plans-clause-writes : goal.returns-in-Ok-open_plans-clause-writes
+returns-in-Ok-open_plans-clause-writes c = omega (arith, c.over.ensures.writes, c.in-Ok-open_plans.ensures.calls.writes)
