@@ -6,7 +6,7 @@ use Rattle.types.specs.declared.addr.Source.{Source}
 use Rattle.types.specs.declared.dest.Proto.TheVariants.{V4, V6}
 use Rattle.udp.specs.declared.history.Role.{Role}
 use Rattle.udp.specs.declared.history.Role.TheVariants.{Circuit, Server, Relay}
-use Rattle.udp.specs.History.{Entry, Took, Failed, Empty, Sent, Ticked, Refused, Read}
+use Rattle.udp.specs.History.{Entry, Took, Failed, Empty, Sent, Ticked, Refused, Read, Monotonic}
 
 -- a socket, as two numbers
 abbrev role_parts : Role → ℕ × ℕ
@@ -39,7 +39,7 @@ none = source_of ([], 0)
 abbrev reading_of : Bool → ℕ → Option ℕ
 reading_of is_read time = cond is_read (Some time) None
 
--- which of the seven it is, its socket, the other end, the bytes, and whether they were accepted
+-- which of the eight it is, its socket, the other end, the bytes, and whether they were accepted
 abbrev Parts : Type 0
 Parts = ℕ × ((ℕ × ℕ) × ((List ℕ × ℕ) × (List ℕ × Bool)))
 
@@ -52,6 +52,8 @@ entry_parts (Refused socket at) = (4, (role_parts socket, (source_parts at, ([],
 entry_parts (Read None) = (5, ((0, 0), (source_parts none, ([], false))))
 entry_parts (Read (Some time)) = (5, ((0, time), (source_parts none, ([], true))))
 entry_parts (Empty socket) = (6, (role_parts socket, (source_parts none, ([], false))))
+entry_parts (Monotonic None) = (7, ((0, 0), (source_parts none, ([], false))))
+entry_parts (Monotonic (Some time)) = (7, ((0, time), (source_parts none, ([], true))))
 
 abbrev entry_of : Parts → Entry
 entry_of p =
@@ -61,7 +63,8 @@ entry_of p =
     (cond (p.0 == 3) (Ticked p.1.0.1)
     (cond (p.0 == 4) (Refused (role_of p.1.0) (source_of p.1.1.0))
     (cond (p.0 == 5) (Read (reading_of p.1.1.1.1 p.1.0.1))
-    (Empty (role_of p.1.0)))))))
+    (cond (p.0 == 6) (Empty (role_of p.1.0))
+    (Monotonic (reading_of p.1.1.1.1 p.1.0.1))))))))
 
 pub entry_back : (e : Entry) → entry_of (entry_parts e) ≡ e
 entry_back (Took socket from bytes) = ap (λ role. Took role from bytes) (role_back socket)
@@ -72,6 +75,8 @@ entry_back (Refused socket at) = ap (λ role. Refused role at) (role_back socket
 entry_back (Read None) = refl
 entry_back (Read (Some time)) = refl
 entry_back (Empty socket) = ap Empty (role_back socket)
+entry_back (Monotonic None) = refl
+entry_back (Monotonic (Some time)) = refl
 
 abbrev parts_code : Coded Parts
 parts_code = coded× coded_ℕ (coded× (coded× coded_ℕ coded_ℕ) (coded× (coded× (coded_list coded_ℕ) coded_ℕ) (coded× (coded_list coded_ℕ) coded_bool)))

@@ -1,4 +1,4 @@
--- What happened at the sockets and the clock, in order.
+-- What happened at the sockets and the clocks, in order.
 use Rattle.std.specs.Prelude.{ℕ, zero, suc, ◌+◌, ◌≤◌, ⊤, Bool, List, [], ◌∷◌, ◌++◌, take, Option, option_map}
 use Rattle.std.specs.Duration.{as_nanos}
 use Rattle.types.specs.declared.addr.Source.{Source}
@@ -25,6 +25,8 @@ pub data Entry : Type 0 where
   Refused : Role → Source → Entry
   -- the system's clock was read, in nanoseconds since 1970; None where it could not be read
   Read : Option ℕ → Entry
+  -- the monotonic clock was read, in nanoseconds since an origin of its own; None where it could not be read
+  Monotonic : Option ℕ → Entry
 
 -- nothing waited at the sockets of this protocol of so many circuits, from this one on
 abbrev pub idle_circuits : Proto → ℕ → ℕ → List Entry
@@ -41,6 +43,7 @@ entries_of (happened.Sent socket to bytes accepted) = Sent socket to bytes.now a
 entries_of (happened.Ticked now) = Ticked now ∷ []
 entries_of (happened.Refused socket at) = Refused socket at ∷ []
 entries_of (happened.Read time) = Read (option_map as_nanos time) ∷ []
+entries_of (happened.Monotonic time) = Monotonic (option_map as_nanos time) ∷ []
 
 abbrev pub with_entry : Entry → List Entry → List Entry
 with_entry entry entries = entries ++ entry ∷ []

@@ -1,4 +1,4 @@
-//! What happened at the sockets and the clock, which contracts see and the program does not: it takes no memory.
+//! What happened at the sockets and the clocks, which contracts see and the program does not: it takes no memory.
 ghost use Rattle.std.specs.Prelude.{◌≡◌, ◌++◌, List, []};
 ghost use Rattle.std.specs.Borrow.{ftrue};
 ghost use Rattle.udp.specs.History.{Entry, Ticked, entries_of, idle_circuits, with_entry};
@@ -38,6 +38,8 @@ pub enum Happened<'a> {
     Refused(Role, Source),
     /// The system's clock was read: the time since 1970, or none.
     Read(Option<Duration>),
+    /// The monotonic clock was read: the time since an origin that stays, or none.
+    Monotonic(Option<Duration>),
 }
 
 /// A list of what happened, which has no bytes.

@@ -1,4 +1,4 @@
-//! UDP sockets and a clock whose history contracts see, and waiting for datagrams.
+//! UDP sockets and clocks whose history contracts see, and waiting for datagrams.
 #![tactic(auto)]
 
 mod clock;
@@ -6,7 +6,7 @@ mod datagram_socket;
 mod history;
 mod waiting;
 
-pub use clock::read_clock;
+pub use clock::{read_clock, read_monotonic};
 pub use datagram_socket::{Attempt, BUFFER_LEN, BindFault, DatagramSocket};
 pub use history::{Happened, History, Role};
 pub use waiting::Waiter;
