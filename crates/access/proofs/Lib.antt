@@ -7,6 +7,7 @@ pub mod PassLemmas
 pub mod PollingLemmas
 pub mod ReplyLemmas
 pub mod ServedLemmas
+pub mod ServiceLemmas
 pub mod SliceLemmas
 pub mod TopologyLemmas
 pub mod TurnLemmas

@@ -1,13 +1,11 @@
 -- What a pass keeps, and how much it takes.
-use Rattle.std.proofs.Common.{inl, inr, ◌≡◌, ◌∙◌, ◌+◌, ◌*◌, ◌<◌, ◌≤◌, ◌==◌, ℕ, zero, suc, Bool, true, false, refl, sym, ap, subst, List, [], length, map, arith}
+use Rattle.std.proofs.Common.{inl, inr, ◌≡◌, ◌∙◌, ◌+◌, ◌*◌, ◌<◌, ◌≤◌, ◌==◌, ℕ, zero, suc, Bool, true, false, refl, sym, ap, subst, [], length, map, arith}
 use Rattle.std.specs.Prelude.{◌⊎◌, Some, None, slice_get}
 use Rattle.types.specs.declared.dest.Proto.{Proto}
 use Rattle.types.specs.declared.dest.Proto.TheVariants.{V4, V6}
 use Rattle.dispatch.specs.ServerValue.{ServerValue, books_in}
-use Rattle.udp.specs.History.{Entry}
 use Rattle.access.specs.Access.{AccessValue, HasCarried, HasCounted, HasServed, StayClosed, StaysSetUp, books_at}
-use Rattle.access.specs.Moments.{HasRead}
-use Rattle.access.specs.Pass.{AreSlices, HasAnswered, HasMadePasses, HasPassed, HasTakenAll, IsSlice, SecondBatch}
+use Rattle.access.specs.Pass.{AreSlices, HasAnswered, HasMadePasses, HasPassed, HasPassedOnce, HasTakenAll, IsSlice, SecondBatch}
 use Rattle.access.specs.Turn.{Tries}
 use Rattle.counts.proofs.TallyLemmas.{all_counted}
 use Rattle.counts.specs.Tally.{CircuitFate}
@@ -157,17 +155,12 @@ pub passed_closed : (now n : ℕ) (old new : AccessValue) → HasPassed now n ol
 passed_closed now n old new p c closed =
     subst (λ books. slice_get books c ≡ Some None) (sym p.ticks.ticked) (ticked_closed now (books_in p.taken6.server) c ((keeps_both now n old new p).closed c closed))
 
--- one pass more, at the moment of the next reading
-pub passed_once : (n before now count : ℕ) (old middle inside new : AccessValue) (history : List Entry) → HasMadePasses n before old middle → inside ≡ middle
-    → HasRead before now inside.history history → HasPassed now count (record inside { history = history }) new → count ≤ 38 * (length inside.topology.circuits + 15)
-    → HasMadePasses (n + 1) now old new
-passed_once n before now count old middle inside new history were same read pass most =
-    let few = subst (λ (s : AccessValue). count ≤ 38 * (length s.topology.circuits + 15)) same most in
-    let reads = subst (λ (s : AccessValue). HasRead before now s.history history) same read in
-    let passed = subst (λ (s : AccessValue). HasPassed now count (record s { history = history }) new) same pass in
+-- one pass more
+pub passed_once : (n before now : ℕ) (old middle new : AccessValue) → HasMadePasses n before old middle → HasPassedOnce before now middle new → HasMadePasses (n + 1) now old new
+passed_once n before now old middle new were once =
     let more : suc n ≡ n + 1 = omega arith in
-    let once : HasMadePasses (suc n) now old new = (before, middle, were, record { read = record middle { history = history }; count = count; reads = reads; rest = refl; pass = passed; few = few }) in
-    subst (λ k. HasMadePasses k now old new) more once
+    let passes : HasMadePasses (suc n) now old new = (before, middle, were, once) in
+    subst (λ k. HasMadePasses k now old new) more passes
 
 -- ---- slice by slice
 

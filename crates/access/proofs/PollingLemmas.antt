@@ -5,7 +5,7 @@ use Rattle.std.proofs.lemmas.List.Elements.{filter_map-append}
 use Rattle.std.proofs.lemmas.Option.{same_Some}
 use Rattle.types.specs.declared.dest.Proto.{Proto}
 use Rattle.types.specs.declared.dest.Proto.TheVariants.{V4, V6}
-use Rattle.udp.specs.History.{Entry, Took, Empty, Failed, Sent, Ticked, Refused, Read, attempt_entry, with_entry}
+use Rattle.udp.specs.History.{Entry, Took, Empty, Failed, Sent, Ticked, Refused, Read, Monotonic, attempt_entry, with_entry}
 use Rattle.udp.specs.declared.datagram_socket.Attempt.{Attempt}
 use Rattle.udp.specs.declared.datagram_socket.Attempt.TheVariants as attempt
 use Rattle.udp.specs.declared.history.Role.{Role}
@@ -150,6 +150,7 @@ fewer_by p (Sent role to bytes accepted) proto left may is = absurd cc
 fewer_by p (Ticked now) proto left may is = absurd cc
 fewer_by p (Refused role at) proto left may is = absurd cc
 fewer_by p (Read time) proto left may is = absurd cc
+fewer_by p (Monotonic time) proto left may is = absurd cc
 
 pub fewer : (proto : Proto) (before after : Polling) (taken more : List Datagram) (old new : List Entry) → HasTriedNext proto before after taken more old new → tries_left after < tries_left before
 fewer proto before after taken more old new tried =

@@ -4,15 +4,16 @@ use Rattle.types.specs.declared.addr.Source.{Source}
 use Rattle.types.specs.declared.dest.Proto.{Proto}
 use Rattle.types.specs.declared.dest.Proto.TheVariants.{V4}
 use Rattle.types.specs.declared.discard.Discard.{Discard}
-use Rattle.lease_disk.specs.FileDisk.{FileDiskValue}
+use Rattle.lease_disk.specs.FileDisk.{FileDiskValue, doubt_of}
 use Rattle.dispatch.specs.Batch.{circuits_of}
 use Rattle.dispatch.specs.Regions.{HasRegions}
 use Rattle.circuit_server.specs.Server.{Book, book_at}
-use Rattle.dispatch.specs.ServerValue.{BeginsAsFound, ServerValue, books_in}
+use Rattle.dispatch.specs.ServerValue.{BeginsAsFound, HaveSettledRegions, ServerValue, books_in}
 use Rattle.config.specs.CircuitPart.{parts_of}
 use Rattle.config.specs.Topology.{IsTopology, Topology, serves, topology_of}
 use Rattle.settings.specs.Settings.{Settings}
 use Rattle.udp.specs.History.{Entry, Ticked, with_entry}
+use Rattle.service_clock.specs.Shown.{Shown, unset}
 use Rattle.counts.specs.Counts.{counted_all}
 use Rattle.counts.specs.Tally.{CircuitFate, nothing_taken, tallied_all}
 use Rattle.access.specs.Batch.{AreReceived, AreReceivedAgain, AreReplied, HasTried, Serving, serving}
@@ -48,6 +49,8 @@ pub record AccessValue : Type 0 where
   -- what happened at the sockets, and how many turns were made
   pub history : List Entry
   pub turns : ℕ
+  -- the clock that passes go by
+  pub clock : Shown
 
 -- each circuit is served
 abbrev pub ServesEach : Topology → Type 0
@@ -84,8 +87,11 @@ pub record IsOpenedAccess (config : Settings) (disk : FileDiskValue) (port batch
   pub served : access.server.topology ≡ topology_of config
   -- each open circuit begins with a book that slots on the device mean
   pub found : BeginsAsFound access.server
+  -- and what was read of its region is on the disk, as far as the device can tell
+  pub settled : HaveSettledRegions (doubt_of access.disk) access.server
   pub large : HasRegions (parts_of config) access.disk.regions
   pub formats : length access.formats ≡ length config.circuits
+  pub least : disk.reads + length config.circuits ≤ access.disk.reads
   pub reads : access.disk.reads ≤ disk.reads + 6 * length config.circuits
   pub writes : access.disk.writes ≤ disk.writes + 4 * length config.circuits
   pub tally : access.tally ≡ nothing_taken (length config.circuits)
@@ -94,6 +100,7 @@ pub record IsOpenedAccess (config : Settings) (disk : FileDiskValue) (port batch
   pub first : access.first ≡ V4
   pub history : access.history ≡ opening
   pub turns : access.turns ≡ 0
+  pub clock : access.clock ≡ unset
 
 -- What relay and server were opened with stays.
 pub record StaysSetUp (old new : AccessValue) : Type 0 where
@@ -114,7 +121,7 @@ pub record HasCarried (Try : Tries) (count : ℕ) (old new : AccessValue) : Type
   pub many : length outcomes ≡ count
   pub after : new ≡ record old { tally = tallied_all outcomes old.tally; history = old.history ++ entries }
 
--- What relays and server know of the configuration, the number of regions and turns, and what the opening found, stay.
+-- What relays and server know of the configuration, the number of regions and turns, what the opening found, and the clock stay.
 pub record HasKept (old new : AccessValue) : Type 0 where
   pub topology : new.topology ≡ old.topology
   pub served : new.server.topology ≡ old.server.topology
@@ -123,6 +130,7 @@ pub record HasKept (old new : AccessValue) : Type 0 where
   pub port : new.port ≡ old.port
   pub batch : new.batch ≡ old.batch
   pub turns : new.turns ≡ old.turns
+  pub clock : new.clock ≡ old.clock
 
 -- what serving changes of it
 abbrev pub serving_in : AccessValue → Serving

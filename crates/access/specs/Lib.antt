@@ -4,5 +4,6 @@ pub mod Moments
 pub mod Opened
 pub mod Pass
 pub mod Polling
+pub mod Service
 pub mod Taken
 pub mod Turn

@@ -1,6 +1,7 @@
--- The moments of the turns, which the system's clock gives.
+-- The moments of turns, which the system's clock gives, and of passes, which the service's clock does.
 use Rattle.std.specs.Prelude.{◌≡◌, ◌/◌, ℕ, List, Option, Some, None, nat_le, if◌then◌else◌}
-use Rattle.udp.specs.History.{Entry, Read, with_entry}
+use Rattle.udp.specs.History.{Entry, Monotonic, Read, with_entry}
+use Rattle.service_clock.specs.Shown.{Shown, after, moment_in}
 
 -- the moment at so many seconds since 1970, or the one before where it is past the last
 abbrev pub moment_of : ℕ → ℕ → ℕ
@@ -16,3 +17,11 @@ pub record HasRead (before now : ℕ) (old new : List Entry) : Type 0 where
   pub reading : Option ℕ
   pub entry : new ≡ with_entry (Read reading) old
   pub moment : now ≡ moment_at reading before
+
+-- Both clocks were read once, the system's first; the service's clock followed them, and shows this moment.
+pub record HasReadClocks (now : ℕ) (clock followed : Shown) (old new : List Entry) : Type 0 where
+  pub system : Option ℕ
+  pub monotonic : Option ℕ
+  pub entries : new ≡ with_entry (Monotonic monotonic) (with_entry (Read system) old)
+  pub follows : followed ≡ after clock system monotonic
+  pub moment : now ≡ moment_in followed

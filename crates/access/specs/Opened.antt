@@ -4,8 +4,8 @@ use Rattle.config.specs.CircuitPart.{parts_of}
 use Rattle.config.specs.Topology.{IsTopology, topology_of}
 use Rattle.counts.specs.Tally.{nothing_taken}
 use Rattle.dispatch.specs.Regions.{HasRegions}
-use Rattle.dispatch.specs.ServerValue.{BeginsAsFound}
-use Rattle.lease_disk.specs.FileDisk.{FileDiskValue}
+use Rattle.dispatch.specs.ServerValue.{BeginsAsFound, HaveSettledRegions}
+use Rattle.lease_disk.specs.FileDisk.{FileDiskValue, doubt_of}
 use Rattle.settings.specs.Settings.{Settings}
 use Rattle.sockets.specs.Sockets.{AreBound}
 use Rattle.sockets.specs.declared.sockets.CircuitSockets.{CircuitSockets}
@@ -18,9 +18,11 @@ pub record IsEngine (config : Settings) (disk : FileDiskValue) (engine : Engine)
   pub sound : IsTopology (topology_of config)
   pub served : engine.server.topology ≡ topology_of config
   pub found : BeginsAsFound engine.server
+  pub settled : HaveSettledRegions (doubt_of engine.disk) engine.server
   pub large : HasRegions (parts_of config) engine.disk.regions
   pub count : engine.disk.regions ≡ disk.regions
   pub formats : length engine.formats.items ≡ length config.circuits
+  pub least : disk.reads + length config.circuits ≤ engine.disk.reads
   pub reads : engine.disk.reads ≤ disk.reads + 6 * length config.circuits
   pub writes : engine.disk.writes ≤ disk.writes + 4 * length config.circuits
   pub tally : engine.tally ≡ nothing_taken (length config.circuits)

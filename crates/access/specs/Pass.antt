@@ -9,7 +9,7 @@ use Rattle.udp.specs.History.{Entry}
 use Rattle.udp.specs.declared.history.Role.{Role}
 use Rattle.udp.specs.declared.history.Role.TheVariants as role
 use Rattle.access.specs.Access.{AccessValue, AreRounds, HasCarried, HasServed, HasTicked}
-use Rattle.access.specs.Moments.{HasRead}
+use Rattle.access.specs.Moments.{HasReadClocks}
 use Rattle.access.specs.Turn.{Both, CircuitSocket, InOrder, IsIdle, IsSentDown, IsTaken, Tries}
 
 -- ---- a slice
@@ -92,15 +92,16 @@ pub record HasPassed (now count : ℕ) (old new : AccessValue) : Type 0 where
 
 -- ---- passes
 
--- The clock was read, and a pass was made at its moment, in which at most so many datagrams were taken.
+-- Both clocks were read, and a pass was made at the moment of the service's clock, in which at most so many datagrams were taken. That
+-- clock itself knows what came before.
 pub record HasPassedOnce (before now : ℕ) (old new : AccessValue) : Type 0 where
   pub read : AccessValue
   pub count : ℕ
-  pub reads : HasRead before now old.history read.history
-  pub rest : read ≡ record old { history = read.history }
+  pub reads : HasReadClocks now old.clock read.clock old.history read.history
+  pub rest : read ≡ record old { history = read.history; clock = read.clock }
   pub pass : HasPassed now count read new
   pub few : count ≤ 38 * (length old.topology.circuits + 15)
 
--- so many passes, each at the moment of a reading of its own
+-- so many passes, each at a moment of its own
 abbrev pub HasMadePasses : ℕ → ℕ → AccessValue → AccessValue → Type 0
 HasMadePasses = AreRounds HasPassedOnce

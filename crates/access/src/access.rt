@@ -1,5 +1,5 @@
 //! Relay and server over sockets.
-ghost use Rattle.std.specs.Prelude.{◌≡◌, ◌≤◌, ◌<◌, ◌+◌, ◌*◌, ◌↔◌, ℕ, [], length, map, true};
+ghost use Rattle.std.specs.Prelude.{◌≡◌, ◌≤◌, ◌<◌, ◌+◌, ◌*◌, ◌↔◌, ℕ, Bool, [], length, map, not, true};
 ghost use Rattle.std.specs.Prelude.{is_some, Some, slice_get, Err, IfOk, IfErr};
 ghost use Rattle.access.specs.Access.{HasCarried, HasCounted, HasReached, HasServed, HasServedTurns, HasTurned};
 ghost use Rattle.access.specs.Access.{IsOpenedAccess, RefusesSocket, StayClosed, StaysSetUp, books_at};
@@ -7,6 +7,7 @@ ghost use Rattle.counts.specs.Counts.{more_by};
 ghost use Rattle.opening.specs.Opening.{found_format, was_old};
 ghost use Rattle.sockets.specs.Sockets.{IsSocket, Refuses, WasRefused};
 ghost use Rattle.access.specs.Opened.{AreSocketsOf, IsEngine};
+ghost use Rattle.access.specs.Service.{IsWatched, Watched, watched_once_more};
 ghost use Rattle.access.specs.Turn.{Both, CircuitSocket, CircuitsSockets, RelaySocket, RelaysSockets};
 ghost use Rattle.types.specs.declared.dest.Proto.TheVariants.{V4, V6};
 ghost use Rattle.access.specs.declared.access.AccessFault.TheVariants as fault;
@@ -17,6 +18,7 @@ ghost use Rattle.dispatch.specs.ServerValue.{books_in};
 ghost use Rattle.config.specs.Topology.{topology_of};
 
 mod pass;
+mod service;
 
 use crate::batch::Batch;
 use crate::clock::moment;
@@ -26,8 +28,9 @@ use config::Config;
 use counts::{CircuitCounts, Counts, Fate, Tally};
 use dispatch::{OpenFault, Server};
 use lease_disk::{FORMAT, FileDisk, OLD_FORMAT};
-use opening::{Formats, open_server};
+use opening::{Formats, open_server, settle_regions};
 use relay::Relays;
+use service_clock::ServiceClock;
 use sockets::{SocketFault, Sockets, client, proto_of, put_front};
 use std::alloc::Global;
 use std::marker::Model;
@@ -109,6 +112,8 @@ pub struct Access {
     tally: Tally,
     history: History,
     turns: Count,
+    /// The clock that passes go by.
+    clock: ServiceClock,
     /// What waits until one of the sockets has a datagram.
     waiter: Waiter,
 }
@@ -132,6 +137,7 @@ impl Model for Access {
           history = a.history.entries;
           turns =
               a.turns.count;
+          clock = a.clock;
         } };
 
     // each circuit and each relay has its sockets, which have their roles, addresses and history, each circuit a region, and each is served
@@ -162,6 +168,8 @@ fn open_engine(alloc: Global, config: &Config, mut disk: FileDisk) -> Result<Eng
     let Ok(tally) = Tally::new(alloc, config.circuit_count()) else {
         return Err(OpenFault::Memory);
     };
+    // before anything is read: what is read then has to be on the disk
+    settle_regions(config, &mut disk);
     let (server, formats) = open_server(alloc, config, &mut disk)?;
     Ok(Engine {
         relays,
@@ -224,10 +232,25 @@ pub fn try_sockets<R: Net>(
     Ok(())
 }
 
-/// What looks at relay and server while they serve.
+/// What looks at relay and server while they serve, and says whether they go on.
 pub trait Watch {
-    /// A turn was made at this moment.
-    fn after_turn(&mut self, access: &Access, now: Moment);
+    /// How many turns and passes it was shown, and the moment of the last one.
+    ghost watched: { Self → Watched };
+
+    /// Whether a service has to end.
+    ghost is_over: { Self → Bool };
+
+    /// A turn or a pass was made at this moment.
+    fn after_turn(&mut self, access: &Access, now: Moment)
+        ensures { watched self.new ≡ watched_once_more now (watched self.old) };
+
+    /// A circuit that was closed was tried again.
+    fn after_reopening(&mut self, access: &Access, circuit: Circuit)
+        ensures { watched self.new ≡ watched self.old };
+
+    /// Whether a service goes on.
+    fn goes_on(&self) -> bool
+        ensures { result ≡ not (is_over self.now) };
 }
 
 impl Access {
@@ -292,6 +315,7 @@ impl Access {
             // the sockets were bound with it
             history: mem::replace(opening, History::new()),
             turns: Count::new(),
+            clock: ServiceClock::new(),
             waiter,
         })
     }
@@ -299,7 +323,8 @@ impl Access {
     /// Makes so many turns, each at the moment that the system's clock then has. A turn that took no datagram is followed
     /// by a wait for the next one, of at most so many milliseconds. After each turn it is shown to `watch`.
     pub fn serve<R: Clock, W: Watch>(&mut self, rt: &R, turns: u32, pause: u16, watch: &mut W)
-        ensures turned { (now : ℕ) × HasServedTurns turns now self.old self.new }
+        ensures turned { (now : ℕ) × HasServedTurns turns now self.old self.new
+            × IsWatched turns now (W.watched watch.old) (W.watched watch.new) }
         ensures turns { self.new.turns ≡ self.old.turns + turns }
         ensures set_up { StaysSetUp self.old self.new }
         ensures closed { StayClosed self.old.server self.new.server }
@@ -339,6 +364,13 @@ impl Access {
         // for the contract: the limit that its type keeps
         let _received = self.tally.all.received;
         frames + datagrams + answers
+    }
+
+    /// The device that keeps the leases.
+    pub fn disk(&self) -> &FileDisk
+        ensures { result.now ≡ self.now.disk }
+    {
+        &self.disk
     }
 
     /// Whether there is a circuit of this index that is open: its region was read and is not damaged, and
@@ -393,6 +425,13 @@ impl Access {
         ensures { result.now ≡ self.now.tally.by_circuit }
     {
         &self.tally.by_circuit
+    }
+
+    /// The clock that passes go by: by how much the system's clock is ahead of it or behind it, if it doesn't follow that.
+    pub fn clock(&self) -> &ServiceClock
+        ensures { result.now ≡ self.now.clock }
+    {
+        &self.clock
     }
 
     /// Takes a frame from each of the circuits' sockets to its relay.

@@ -5,7 +5,7 @@ use Rattle.std.specs.List.{cons_option, filter}
 use Rattle.std.proofs.lemmas.List.Elements.{filter-append, filter_map-append}
 use Rattle.types.specs.declared.dest.Proto.{Proto}
 use Rattle.types.specs.declared.dest.Proto.TheVariants.{V4, V6}
-use Rattle.udp.specs.History.{Entry, Took, Failed, Empty, Sent, Ticked, Refused, Read}
+use Rattle.udp.specs.History.{Entry, Took, Failed, Empty, Sent, Ticked, Refused, Read, Monotonic}
 use Rattle.udp.specs.declared.history.Role.TheVariants.{Circuit, Server, Relay}
 use Rattle.access_promises.specs.Attempts.{CircuitSocket, attempts_in, frames_from, is_same, same_proto, taken_in, times_of, tried_at}
 
@@ -117,6 +117,7 @@ taken_more (Sent socket to bytes accepted ∷ xs) ys = taken_more xs ys
 taken_more (Ticked now ∷ xs) ys = taken_more xs ys
 taken_more (Refused socket at ∷ xs) ys = taken_more xs ys
 taken_more (Read time ∷ xs) ys = taken_more xs ys
+taken_more (Monotonic time ∷ xs) ys = taken_more xs ys
 
 pub attempts_more : (xs ys : List Entry) → attempts_in (xs ++ ys) ≡ attempts_in xs ++ attempts_in ys
 attempts_more xs ys = filter_map-append tried_at xs ys
@@ -156,6 +157,7 @@ frame_or_less o (Sent socket to bytes accepted) xs less = less
 frame_or_less o (Ticked now) xs less = less
 frame_or_less o (Refused socket at) xs less = less
 frame_or_less o (Read time) xs less = less
+frame_or_less o (Monotonic time) xs less = less
 
 pub frames_at_attempts : (o : CircuitSocket) (xs : List Entry) → times_of o (frames_from xs) ≤ times_of o (attempts_in xs)
 frames_at_attempts o [] = omega arith

@@ -13,7 +13,7 @@ use Rattle.relay.specs.Relays.{CircuitFrame, proto_of, relayed_down, relayed_dow
 use Rattle.relay.specs.SentFrame.{SentFrame}
 use Rattle.relay.proofs.AllLemmas as relays
 use Rattle.sockets.specs.Sockets as sockets
-use Rattle.udp.specs.History.{Entry, Took, Failed, Empty, Sent, Ticked, Refused, Read}
+use Rattle.udp.specs.History.{Entry, Took, Failed, Empty, Sent, Ticked, Refused, Read, Monotonic}
 use Rattle.udp.specs.declared.history.Role.TheVariants.{Circuit, Server, Relay}
 use Rattle.counts.specs.Tally.{CircuitFate}
 use Rattle.access.specs.Pass.{EndsBy, IsAnswerTaken, IsEmptied, RelaysEmptied}
@@ -40,6 +40,7 @@ port_only port (Sent (Relay r) to bytes accepted) apart = tt
 port_only port (Ticked now) apart = tt
 port_only port (Refused socket at) apart = tt
 port_only port (Read time) apart = tt
+port_only port (Monotonic time) apart = tt
 
 module _ (topology : Topology) (port : ℕ) where
   -- what the laws say of some entries

@@ -3,14 +3,14 @@ use Rattle.std.proofs.Common.{◌≡◌, ◌∙◌, ℕ, ◌==◌, false, List, 
 use Rattle.std.specs.Prelude.{⊤, Option, None}
 use Rattle.std.specs.List.{cons_option, filter_map}
 use Rattle.config.specs.Topology.{Topology}
-use Rattle.udp.specs.History.{Entry, Took, Failed, Empty, Sent, Ticked, Refused, Read}
+use Rattle.udp.specs.History.{Entry, Took, Failed, Empty, Sent, Ticked, Refused, Read, Monotonic}
 use Rattle.udp.specs.declared.history.Role.TheVariants.{Circuit, Server, Relay}
 use Rattle.access.specs.Polling.{delivery_in}
 use Rattle.access_promises.specs.Own.{own_datagram, own_frame, sent_down, sent_reply, sent_up}
 use Rattle.access_promises.specs.Turns.{turns_after}
 use Rattle.access_promises.proofs.Tried.{AddsUp}
 
--- 0 the clock is read, 1 the circuits' sockets, 2 the server's are tried, 3 its replies, 4 the relays' sockets, 5 the round ends
+-- 0 a clock is read, 1 the circuits' sockets, 2 the server's are tried, 3 its replies, 4 the relays' sockets, 5 the round ends
 abbrev pub kind : Entry → ℕ
 kind (Took (Circuit k proto) from bytes) = 1
 kind (Took (Server proto) from bytes) = 2
@@ -27,6 +27,7 @@ kind (Sent (Relay r) to bytes accepted) = 1
 kind (Ticked now) = 5
 kind (Refused socket at) = 6
 kind (Read time) = 0
+kind (Monotonic time) = 0
 
 abbrev pub AreOf : ℕ → List Entry → Type 0
 AreOf n [] = ⊤
@@ -60,6 +61,7 @@ frame_only c (Sent (Relay r) to bytes accepted) apart = absurd cc
 frame_only c (Ticked now) apart = refl
 frame_only c (Refused socket at) apart = refl
 frame_only c (Read time) apart = refl
+frame_only c (Monotonic time) apart = refl
 
 pub up_only : (topology : Topology) (entry : Entry) → (kind entry == 1) ≡ false → sent_up topology entry ≡ None
 up_only topology (Took (Circuit k proto) from bytes) apart = absurd cc
@@ -77,6 +79,7 @@ up_only topology (Sent (Relay r) to bytes accepted) apart = absurd cc
 up_only topology (Ticked now) apart = refl
 up_only topology (Refused socket at) apart = refl
 up_only topology (Read time) apart = refl
+up_only topology (Monotonic time) apart = refl
 
 pub delivery_only : (moment : ℕ) (entry : Entry) → (kind entry == 2) ≡ false → delivery_in moment entry ≡ None
 delivery_only moment (Took (Circuit k proto) from bytes) apart = refl
@@ -94,6 +97,7 @@ delivery_only moment (Sent (Relay r) to bytes accepted) apart = refl
 delivery_only moment (Ticked now) apart = refl
 delivery_only moment (Refused socket at) apart = refl
 delivery_only moment (Read time) apart = refl
+delivery_only moment (Monotonic time) apart = refl
 
 pub reply_only : (entry : Entry) → (kind entry == 3) ≡ false → sent_reply entry ≡ None
 reply_only (Took (Circuit k proto) from bytes) apart = refl
@@ -111,6 +115,7 @@ reply_only (Sent (Relay r) to bytes accepted) apart = refl
 reply_only (Ticked now) apart = refl
 reply_only (Refused socket at) apart = refl
 reply_only (Read time) apart = refl
+reply_only (Monotonic time) apart = refl
 
 pub datagram_only : (topology : Topology) (c : ℕ) (entry : Entry) → (kind entry == 4) ≡ false → own_datagram topology c entry ≡ None
 datagram_only topology c (Took (Circuit k proto) from bytes) apart = refl
@@ -128,6 +133,7 @@ datagram_only topology c (Sent (Relay r) to bytes accepted) apart = refl
 datagram_only topology c (Ticked now) apart = refl
 datagram_only topology c (Refused socket at) apart = refl
 datagram_only topology c (Read time) apart = refl
+datagram_only topology c (Monotonic time) apart = refl
 
 pub down_only : (c : ℕ) (entry : Entry) → (kind entry == 4) ≡ false → sent_down c entry ≡ None
 down_only c (Took (Circuit k proto) from bytes) apart = refl
@@ -145,6 +151,7 @@ down_only c (Sent (Relay r) to bytes accepted) apart = refl
 down_only c (Ticked now) apart = refl
 down_only c (Refused socket at) apart = refl
 down_only c (Read time) apart = refl
+down_only c (Monotonic time) apart = refl
 
 -- a round goes on
 pub goes_on : (before : List Entry) (entry : Entry) (entries : List Entry) → (kind entry == 5) ≡ false → turns_after before (entry ∷ entries) ≡ turns_after (before ++ entry ∷ []) entries
@@ -155,3 +162,4 @@ goes_on before (Sent socket to bytes accepted) entries apart = refl
 goes_on before (Ticked now) entries apart = absurd cc
 goes_on before (Refused socket at) entries apart = refl
 goes_on before (Read time) entries apart = refl
+goes_on before (Monotonic time) entries apart = refl

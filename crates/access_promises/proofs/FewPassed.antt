@@ -1,5 +1,5 @@
 -- After each slice, and so at the end of each pass, nothing waits.
-use Rattle.std.proofs.Common.{◌≡◌, ◌∙◌, ℕ, zero, suc, ◌<◌, ◌≤◌, ◌==◌, Bool, true, false, cond, List, [], ◌∷◌, ◌++◌, length, drop, refl, sym, ap, subst, arith}
+use Rattle.std.proofs.Common.{◌≡◌, ◌∙◌, ℕ, zero, suc, ◌<◌, ◌≤◌, ◌==◌, Bool, true, false, cond, List, [], ◌∷◌, ◌++◌, length, drop, refl, sym, ap, subst, append_assoc, arith}
 use Rattle.std.specs.Prelude.{Option, Some, None, slice_get}
 use Rattle.std.proofs.lemmas.List.Elements.{All-nil}
 use Rattle.types.specs.declared.addr.Source.{Source}
@@ -8,11 +8,11 @@ use Rattle.types.specs.declared.dest.Proto.TheVariants.{V4, V6}
 use Rattle.settings.specs.Settings.{Settings}
 use Rattle.config.specs.Topology.{Topology, is_relay, is_server}
 use Rattle.sockets.specs.Sockets.{client_port}
-use Rattle.udp.specs.History.{Entry, Took, Failed, Empty, Sent, Ticked, Refused, Read}
+use Rattle.udp.specs.History.{Entry, Took, Failed, Empty, Sent, Ticked, Refused, Read, Monotonic}
 use Rattle.udp.specs.declared.history.Role.{Role}
 use Rattle.udp.specs.declared.history.Role.TheVariants.{Circuit, Server, Relay}
 use Rattle.access.specs.Access.{AccessValue, HasCarried, HasServed, HasTicked}
-use Rattle.access.specs.Moments.{HasRead}
+use Rattle.access.specs.Moments.{HasReadClocks}
 use Rattle.access.specs.Pass.{AreSlices, HasAnswered, HasMadePasses, HasPassed, IsSlice, RelaysEmptied, SecondBatch}
 use Rattle.access.specs.Turn.{Tries}
 use Rattle.access_promises.specs.Turns.{added}
@@ -104,21 +104,25 @@ module _ (topology : Topology) (port : ℕ) (apart : AreApart topology port) whe
       let six = slices_passed now V6 pass.of6.slices (length pass.taken4.topology.circuits) pass.count6 pass.taken4 pass.taken6 four.set_up pass.of6.taken in
       passed_then old pass.taken6 new (passed_then old pass.taken4 pass.taken6 four six) (tick_passed now pass.taken6 new six.set_up pass.ticks)
 
-  read_passed : (before now : ℕ) (old read : AccessValue) → IsSetUp topology port old → HasRead before now old.history read.history → read ≡ record old { history = read.history } → Passed old read
-  read_passed before now old read set_up reads rest = record {
+  read_passed : (now : ℕ) (old read : AccessValue) → IsSetUp topology port old → HasReadClocks now old.clock read.clock old.history read.history → read ≡ record old { history = read.history; clock = read.clock } → Passed old read
+  read_passed now old read set_up reads rest = record {
     set_up = record {
       topology_is = ap (λ (a : AccessValue). a.topology) rest ∙ set_up.topology_is;
       port_is = ap (λ (a : AccessValue). a.port) rest ∙ set_up.port_is;
       batch_is = ap (λ (a : AccessValue). a.batch) rest ∙ set_up.batch_is;
     };
-    adds = record { entries = Read reads.reading ∷ []; history = reads.entry; leads = λ q fair few. record { ends = few; ticks = (tt, tt) } };
+    adds = record {
+      entries = Read reads.system ∷ Monotonic reads.monotonic ∷ [];
+      history = reads.entries ∙ append_assoc old.history (Read reads.system ∷ []) (Monotonic reads.monotonic ∷ []);
+      leads = λ q fair few. record { ends = few; ticks = (tt, (tt, tt)) };
+    };
   }
 
   passes_passed : (n now : ℕ) (old new : AccessValue) → IsSetUp topology port old → HasMadePasses n now old new → Passed old new
   passes_passed zero now old new set_up made = passed_none old new set_up made.1
   passes_passed (suc n) now old new set_up (before, middle, were, once) =
       let earlier = passes_passed n before old middle set_up were in
-      let read = read_passed before now middle once.read earlier.set_up once.reads once.rest in
+      let read = read_passed now middle once.read earlier.set_up once.reads once.rest in
       passed_then old middle new earlier (passed_then middle once.read new read (pass_passed now once.count once.read new read.set_up once.pass))
 
 -- ---- at the end of a pass
@@ -149,6 +153,7 @@ nowhere topology socket none (Sent from to bytes false ∷ entries) = nowhere to
 nowhere topology socket none (Ticked now ∷ entries) = nowhere topology socket none entries
 nowhere topology socket none (Refused at source ∷ entries) = nowhere topology socket none entries
 nowhere topology socket none (Read time ∷ entries) = nowhere topology socket none entries
+nowhere topology socket none (Monotonic time ∷ entries) = nowhere topology socket none entries
 
 empty_at : (topology : Topology) (entries : List Entry) → FewWait topology 0 0 (after_all topology entries (λ socket. [])) → (socket : Role) → waiting topology socket [] entries ≡ []
 empty_at topology entries few (Server V4) =

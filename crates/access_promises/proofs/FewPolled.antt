@@ -7,7 +7,7 @@ use Rattle.types.specs.declared.addr.Source.{Source}
 use Rattle.types.specs.declared.dest.Proto.{Proto}
 use Rattle.types.specs.declared.dest.Proto.TheVariants.{V4, V6}
 use Rattle.config.specs.Topology.{Topology}
-use Rattle.udp.specs.History.{Entry, Took, Failed, Empty, Sent, Ticked, Refused, Read}
+use Rattle.udp.specs.History.{Entry, Took, Failed, Empty, Sent, Ticked, Refused, Read, Monotonic}
 use Rattle.udp.specs.declared.history.Role.TheVariants.{Circuit, Server, Relay}
 use Rattle.access.specs.Polling.{AreTries, IsPolled, after_tries, after_try, again, begun, deliveries_in, may_wait, next_of, other, waiting_at}
 use Rattle.access.specs.declared.polling.Polling.{Polling}
@@ -155,6 +155,7 @@ module _ (topology : Topology) (Rest : Queues → Type 0) where
   polls now p (Ticked moment ∷ entries) up down q tries end fair room known few = absurd (let not = tries.0.2 in cc)
   polls now p (Refused socket at ∷ entries) up down q tries end fair room known few = absurd (let not = tries.0.2 in cc)
   polls now p (Read time ∷ entries) up down q tries end fair room known few = absurd (let not = tries.0.2 in cc)
+  polls now p (Monotonic time ∷ entries) up down q tries end fair room known few = absurd (let not = tries.0.2 in cc)
 
   -- from the beginning of a batch
   begins_known : (most : ℕ) (own : Proto) (q : Queues) → IsKnown (begun most own) q

@@ -1,15 +1,16 @@
 -- One round, a turn or a pass: its moves, and then all clocks are moved.
-use Rattle.std.proofs.Common.{inl, inr, ◌≡◌, ◌∙◌, ℕ, zero, suc, ◌==◌, Bool, true, false, length, sym, ap, subst}
-use Rattle.std.specs.Prelude.{Option}
+use Rattle.std.proofs.Common.{inl, inr, ◌≡◌, ◌∙◌, ℕ, zero, suc, ◌==◌, Bool, true, false, List, [], ◌∷◌, ◌++◌, length, refl, sym, ap, subst, append_assoc}
 use Rattle.types.specs.declared.dest.Proto.{Proto}
 use Rattle.types.specs.declared.dest.Proto.TheVariants.{V4, V6}
-use Rattle.udp.specs.History.{Read, with_entry}
+use Rattle.service_clock.specs.Shown.{Shown}
+use Rattle.udp.specs.History.{Entry, Monotonic, Read}
 use Rattle.access.specs.Access.{AccessValue, HasTicked, HasTurned}
-use Rattle.access.specs.Moments.{HasRead}
+use Rattle.access.specs.Moments.{HasRead, HasReadClocks}
 use Rattle.access.specs.Pass.{AreSlices, HasAnswered, HasPassed, IsSlice, RelaysEmptied, SecondBatch, SocketsFrom}
 use Rattle.access.specs.Turn.{CircuitsSockets, RelaysSockets}
 use Rattle.access_promises.specs.Turns.{IsRound}
 use Rattle.access_promises.proofs.DownLemmas.{slice_down, turn_down}
+use Rattle.access_promises.proofs.EntryKinds.{AreOf}
 use Rattle.access_promises.proofs.Moves.{Moves, moves_none, moves_served, moves_then, moves_through, moves_up}
 use Rattle.access_promises.proofs.UpLemmas.{slice_up, turn_up}
 
@@ -45,21 +46,38 @@ pass_moves now count old new pass =
     moves_then now old pass.taken4 pass.taken6 (slices_move now V4 pass.of4.slices (length old.topology.circuits) pass.count4 old pass.taken4 pass.of4.taken)
     (slices_move now V6 pass.of6.slices (length pass.taken4.topology.circuits) pass.count6 pass.taken4 pass.taken6 pass.of6.taken)
 
--- ---- the clock is read before them, and moved after them
+-- ---- clocks are read before them, and all clocks are moved after them
 
 pub record IsOneRound (old new : AccessValue) : Type 0 where
   pub now : ℕ
-  pub reading : Option ℕ
+  pub readings : List Entry
+  pub are : AreOf 0 readings
+  pub clock : Shown
   pub moved : AccessValue
-  pub moves : Moves now (record old { history = with_entry (Read reading) old.history }) moved
+  pub moves : Moves now (record old { history = old.history ++ readings; clock = clock }) moved
   pub ticks : HasTicked now moved new
 
 from_read : (before now : ℕ) (old read moved new : AccessValue) → (reads : HasRead before now old.history read.history) → read ≡ record old { history = read.history } → Moves now read moved → HasTicked now moved new → IsOneRound old new
 from_read before now old read moved new reads rest moves ticks = record {
   now = now;
-  reading = reads.reading;
+  readings = Read reads.reading ∷ [];
+  are = (refl, tt);
+  clock = old.clock;
   moved = moved;
   moves = subst (λ (a : AccessValue). Moves now a moved) (rest ∙ ap (λ h. record old { history = h }) reads.entry) moves;
+  ticks = ticks;
+}
+
+from_clocks : (now : ℕ) (old read moved new : AccessValue) → (reads : HasReadClocks now old.clock read.clock old.history read.history) → read ≡ record old { history = read.history; clock = read.clock } → Moves now read moved → HasTicked now moved new
+    → IsOneRound old new
+from_clocks now old read moved new reads rest moves ticks = record {
+  now = now;
+  readings = Read reads.system ∷ Monotonic reads.monotonic ∷ [];
+  are = (refl, (refl, tt));
+  clock = read.clock;
+  moved = moved;
+  moves = subst (λ (a : AccessValue). Moves now a moved)
+      (rest ∙ ap (λ h. record old { history = h; clock = read.clock }) (reads.entries ∙ append_assoc old.history (Read reads.system ∷ []) (Monotonic reads.monotonic ∷ []))) moves;
   ticks = ticks;
 }
 
@@ -68,4 +86,4 @@ one_round before now old new (inl once) =
     let turn = once.turn in
     from_read before now old once.read turn.delivered new once.reads once.rest (turn_moves now once.count once.read new turn) turn.ticks
 one_round before now old new (inr once) =
-    from_read before now old once.read once.pass.taken6 new once.reads once.rest (pass_moves now once.count once.read new once.pass) once.pass.ticks
+    from_clocks now old once.read once.pass.taken6 new once.reads once.rest (pass_moves now once.count once.read new once.pass) once.pass.ticks

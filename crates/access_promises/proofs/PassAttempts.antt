@@ -12,7 +12,7 @@ use Rattle.counts.specs.declared.counts.Fate.TheVariants as fate
 use Rattle.dispatch.specs.Answers.{circuit_at}
 use Rattle.relay.specs.Relays.{CircuitFrame, relayed_down_in, relayed_up}
 use Rattle.sockets.specs.Sockets.{client_port, framed, proto_of}
-use Rattle.udp.specs.History.{Entry, Took, Failed, Empty, Sent, Ticked, Refused, Read}
+use Rattle.udp.specs.History.{Entry, Took, Failed, Empty, Sent, Ticked, Refused, Read, Monotonic}
 use Rattle.udp.specs.declared.history.Role.{Role}
 use Rattle.udp.specs.declared.history.Role.TheVariants.{Circuit, Server, Relay}
 use Rattle.access.specs.Batch.{AreReceived, AreReceivedAgain, IsReceivedAgain, IsRepliedAt, IsReplied, Serving, is_repeated, made_of}
@@ -133,6 +133,7 @@ at_server now (Sent (Relay r) to bytes accepted) entries is rest = absurd cc
 at_server now (Ticked time) entries is rest = absurd cc
 at_server now (Refused socket at) entries is rest = absurd cc
 at_server now (Read time) entries is rest = absurd cc
+at_server now (Monotonic time) entries is rest = absurd cc
 
 pub polls_find : (now : ℕ) (entries : List Entry) → AreOf 2 entries → Finds [] (length (deliveries_in now entries)) entries
 polls_find now [] of = record { attempts = refl; taken_is = refl }

@@ -7,7 +7,7 @@ use Rattle.types.specs.declared.dest.Proto.TheVariants.{V4, V6}
 use Rattle.types.specs.Delivery.{DeliveryValue}
 use Rattle.config.specs.Topology.{Topology}
 use Rattle.dispatch.specs.Batch.{circuits_of}
-use Rattle.udp.specs.History.{Entry, Read, Ticked}
+use Rattle.udp.specs.History.{Entry, Monotonic, Read, Ticked}
 use Rattle.access.specs.Access.{AccessValue, HasCarried, HasServed, HasTicked, serving_in}
 use Rattle.access.specs.Batch.{IsRepliedAt, serving}
 use Rattle.access.specs.Pass.{AreSlices, HasAnswered, HasMadePasses, HasPassed, HasPassedOnce, IsEmptied, IsSlice, RelaysEmptied, SecondBatch, SocketsFrom}
@@ -148,7 +148,14 @@ once_goes before now old new once =
       same = ap (λ (a : AccessValue). a.topology) once.rest
 
       reads : Goes [] 0 old once.read
-      reads = record { grows = record { entries = Read once.reads.reading ∷ []; history = once.reads.entry; finds = record { attempts = refl; taken_is = refl } }; same = same }
+      reads = record {
+        grows = record {
+          entries = Read once.reads.system ∷ Monotonic once.reads.monotonic ∷ [];
+          history = once.reads.entries ∙ append_assoc old.history (Read once.reads.system ∷ []) (Monotonic once.reads.monotonic ∷ []);
+          finds = record { attempts = refl; taken_is = refl };
+        };
+        same = same;
+      }
 
       passed : Goes (all_sockets (length old.topology.circuits)) once.count once.read new
       passed = subst (λ (t : Topology). Goes (all_sockets (length t.circuits)) once.count once.read new) same (passed_goes now once.count once.read new once.pass)

@@ -2,7 +2,7 @@
 use Rattle.std.proofs.Common.{◌≡◌, ◌∙◌, ℕ, List, [], ◌∷◌, ◌++◌, true, false, refl, sym, ap, subst, append_assoc, append-nil}
 use Rattle.std.specs.Prelude.{⊤, Some}
 use Rattle.config.specs.Topology.{Topology}
-use Rattle.udp.specs.History.{Entry, Took, Failed, Empty, Sent, Ticked, Refused, Read}
+use Rattle.udp.specs.History.{Entry, Took, Failed, Empty, Sent, Ticked, Refused, Read, Monotonic}
 use Rattle.udp.specs.declared.history.Role.{Role}
 use Rattle.udp.specs.declared.history.Role.TheVariants.{Circuit, Server, Relay}
 use Rattle.counts.specs.Tally.{CircuitFate}
@@ -24,6 +24,7 @@ waiting_more topology socket queue (Sent from to bytes false ∷ xs) ys = waitin
 waiting_more topology socket queue (Ticked now ∷ xs) ys = waiting_more topology socket queue xs ys
 waiting_more topology socket queue (Refused at source ∷ xs) ys = waiting_more topology socket queue xs ys
 waiting_more topology socket queue (Read time ∷ xs) ys = waiting_more topology socket queue xs ys
+waiting_more topology socket queue (Monotonic time ∷ xs) ys = waiting_more topology socket queue xs ys
 
 -- what waits after an entry, and after some
 abbrev pub after : Topology → Entry → Queues → Queues
@@ -70,6 +71,7 @@ is_fair topology before (Sent from to bytes accepted) honest = tt
 is_fair topology before (Ticked now) honest = tt
 is_fair topology before (Refused at source) honest = tt
 is_fair topology before (Read time) honest = tt
+is_fair topology before (Monotonic time) honest = tt
 
 pub are_fair : (topology : Topology) (before entries : List Entry) → LosesNothing topology before entries → AreFair topology (λ socket. waiting topology socket [] before) entries
 are_fair topology before [] loses = tt

@@ -6,7 +6,7 @@ use Rattle.types.specs.declared.dest.Proto.{Proto}
 use Rattle.types.specs.declared.discard.Discard.{Discard}
 use Rattle.relay.specs.Relays.{CircuitFrame}
 use Rattle.sockets.specs.Sockets.{client_port, framed, proto_of}
-use Rattle.udp.specs.History.{Entry, Took, Failed, Empty, Sent, Ticked, Refused, Read}
+use Rattle.udp.specs.History.{Entry, Took, Failed, Empty, Sent, Ticked, Refused, Read, Monotonic}
 use Rattle.udp.specs.declared.history.Role.{Role}
 use Rattle.udp.specs.declared.history.Role.TheVariants.{Circuit, Server, Relay}
 use Rattle.counts.specs.Tally.{CircuitFate}
@@ -46,6 +46,7 @@ server_of (Sent (Relay r) to bytes accepted) proto is = absurd cc
 server_of (Ticked now) proto is = absurd cc
 server_of (Refused socket at) proto is = absurd cc
 server_of (Read time) proto is = absurd cc
+server_of (Monotonic time) proto is = absurd cc
 
 pub polls_of : (p : Polling) (entries : List Entry) → AreTries p entries → AreOf 2 entries
 polls_of p [] tries = tt

@@ -1,6 +1,6 @@
 -- A run, round by round.
 use Rattle.std.proofs.Common.{inl, inr, ◌≡◌, ◌∙◌, ℕ, zero, suc, List, [], ◌∷◌, ◌++◌, length, map, drop, refl, sym, ap, ap₂, subst, append_assoc, append-nil}
-use Rattle.std.specs.Prelude.{Option, Some, All, option_map, slice_get}
+use Rattle.std.specs.Prelude.{Some, All, option_map, slice_get}
 use Rattle.std.specs.List.{filter, filter_map, flat_map}
 use Rattle.std.specs.Option.{option_flatten}
 use Rattle.std.proofs.lemmas.List.Concat.{flat_map-append}
@@ -15,22 +15,24 @@ use Rattle.config.specs.Topology.{IsTopology, Topology}
 use Rattle.circuit_server.specs.Server.{book_at}
 use Rattle.lease_disk.specs.FileDisk.{device_of}
 use Rattle.dispatch.specs.ServerValue.{books_in}
-use Rattle.udp.specs.History.{Entry, Read, Ticked, with_entry}
+use Rattle.service_clock.specs.Shown.{Shown}
+use Rattle.udp.specs.History.{Entry, Ticked}
 use Rattle.access.specs.Access.{AccessValue, AreRounds, HasServedTurns, HasTicked}
 use Rattle.access.specs.Pass.{HasMadePasses}
-use Rattle.access.specs.Polling.{deliveries_in}
+use Rattle.access.specs.Polling.{deliveries_in, delivery_in}
 use Rattle.access_promises.specs.Exchanges.{AreAlone, AreExchanges, Exchange, DropsStray, book_in, reply_of}
 use Rattle.access_promises.specs.Own.{Receive, Tick, is_own, replies_in, sent_reply, steps_in, steps_of, taken_at_server}
 use Rattle.access_promises.specs.Turns.{IsRound, IsRun, Turn, added, turns_in}
 use Rattle.access_promises.proofs.Counted.{CountsEach, counts_none, counts_then}
-use Rattle.access_promises.proofs.DownLemmas.{AreDown, down_more, down_none, down_other}
+use Rattle.access_promises.proofs.DownLemmas.{AreDown, down_more, down_none, down_other, down_others}
 use Rattle.access_promises.proofs.EachBook.{has_book}
 use Rattle.access_promises.proofs.Moves.{HasMoved}
 use Rattle.access_promises.proofs.OneRound.{IsOneRound, one_round}
-use Rattle.access_promises.proofs.RoundEntries.{turn_ends}
+use Rattle.access_promises.proofs.EntryKinds.{AreOf, delivery_only, reply_only, skipped}
+use Rattle.access_promises.proofs.RoundEntries.{GoOn, go_on, go_on_more, turn_ends}
 use Rattle.access_promises.proofs.Serves.{datagrams, no_strays, receives}
 use Rattle.access_promises.proofs.StepLemmas.{alone_more, alone_none, alone_ticked}
-use Rattle.access_promises.proofs.UpLemmas.{AreUp, up_more, up_none, up_other}
+use Rattle.access_promises.proofs.UpLemmas.{AreUp, up_more, up_none, up_other, up_others}
 
 drop_seam : {A : Type 0} (xs ys : List A) → drop (length xs) (xs ++ ys) ≡ ys
 drop_seam [] ys = refl
@@ -72,32 +74,45 @@ ran_none old new known is = subst (λ (a : AccessValue). Ran old.topology old.po
 
 -- ---- a round
 
-module _ (topology : Topology) (port now : ℕ) (reading : Option ℕ) (old last new : AccessValue) (known : old.server.topology ≡ topology)
-    (moved : HasMoved topology port now (record old { history = with_entry (Read reading) old.history }) last) (ticks : HasTicked now last new) where
+module _ (topology : Topology) (port now : ℕ) (readings : List Entry) (are : AreOf 0 readings) (clock : Shown) (old last new : AccessValue) (known : old.server.topology ≡ topology)
+    (moved : HasMoved topology port now (record old { history = old.history ++ readings; clock = clock }) last) (ticks : HasTicked now last new) where
   abbrev body : List Entry
-  body = Read reading ∷ moved.serves.entries
+  body = readings ++ moved.serves.entries
 
   abbrev round : List Entry
   round = body ++ Ticked now ∷ []
 
+  goes_on : GoOn body
+  goes_on = go_on_more readings moved.serves.entries (go_on 0 refl readings are) moved.serves.are.on
+
+  taken_in_body : deliveries_in now body ≡ moved.taken
+  taken_in_body =
+      filter_map-append (delivery_in now) readings moved.serves.entries
+      ∙ (ap (λ ds. ds ++ deliveries_in now moved.serves.entries) (skipped (delivery_in now) 2 0 (delivery_only now) refl readings are) ∙ moved.deliveries)
+
+  replies_in_body : replies_in body ≡ filter_map reply_of moved.serves.exchanges
+  replies_in_body =
+      filter_map-append sent_reply readings moved.serves.entries
+      ∙ (ap (λ rs. rs ++ replies_in moved.serves.entries) (skipped sent_reply 3 0 reply_only refl readings are) ∙ moved.serves.replies)
+
   ends : (more : List Entry) → turns_in (round ++ more) ≡ record { entries = body; now = now } ∷ turns_in more
-  ends more = ap turns_in (append_assoc body (Ticked now ∷ []) more) ∙ turn_ends body (refl, moved.serves.are.on) [] now more
+  ends more = ap turns_in (append_assoc body (Ticked now ∷ []) more) ∙ turn_ends body goes_on [] now more
 
   its_turns : turns_in round ≡ record { entries = body; now = now } ∷ []
-  its_turns = turn_ends body (refl, moved.serves.are.on) [] now []
+  its_turns = turn_ends body goes_on [] now []
 
   taken_in_round : taken_at_server round ≡ moved.taken
-  taken_in_round = ap (flat_map (λ (t : Turn). deliveries_in t.now t.entries)) its_turns ∙ (append-nil (deliveries_in now body) ∙ moved.deliveries)
+  taken_in_round = ap (flat_map (λ (t : Turn). deliveries_in t.now t.entries)) its_turns ∙ (append-nil (deliveries_in now body) ∙ taken_in_body)
 
   steps_in_round : (c : ℕ) → steps_in topology c round ≡ receives topology c moved.taken ++ Tick now ∷ []
   steps_in_round c =
       ap (flat_map (steps_of topology c)) its_turns
-      ∙ (append-nil (steps_of topology c (record { entries = body; now = now })) ∙ ap (λ (ds : List DeliveryValue). map Receive (filter (is_own topology c) ds) ++ Tick now ∷ []) moved.deliveries)
+      ∙ (append-nil (steps_of topology c (record { entries = body; now = now })) ∙ ap (λ (ds : List DeliveryValue). map Receive (filter (is_own topology c) ds) ++ Tick now ∷ []) taken_in_body)
 
   round_history : new.history ≡ old.history ++ round
   round_history =
       ticks.history
-      ∙ (ap (λ h. h ++ Ticked now ∷ []) (moved.serves.history ∙ append_assoc old.history (Read reading ∷ []) moved.serves.entries)
+      ∙ (ap (λ h. h ++ Ticked now ∷ []) (moved.serves.history ∙ append_assoc old.history readings moved.serves.entries)
       ∙ append_assoc old.history body (Ticked now ∷ []))
 
   round_alone : (c : ℕ) (part : CircuitPart) → slice_get topology.circuits c ≡ Some part → AreAlone topology c part (steps_in topology c round) moved.serves.exchanges (book_in old.server c) (book_in new.server c)
@@ -118,8 +133,8 @@ module _ (topology : Topology) (port now : ℕ) (reading : Option ℕ) (old last
   ran_moved = record {
     entries = round;
     history = round_history;
-    up = up_more topology body (Ticked now ∷ []) (up_more topology (Read reading ∷ []) moved.serves.entries (up_other topology (Read reading) refl) moved.serves.are.up) (up_other topology (Ticked now) refl);
-    down = down_more topology port body (Ticked now ∷ []) (down_more topology port (Read reading ∷ []) moved.serves.entries (down_other topology port (Read reading) refl) moved.serves.are.down)
+    up = up_more topology body (Ticked now ∷ []) (up_more topology readings moved.serves.entries (up_others topology 0 refl readings are) moved.serves.are.up) (up_other topology (Ticked now) refl);
+    down = down_more topology port body (Ticked now ∷ []) (down_more topology port readings moved.serves.entries (down_others topology port 0 refl readings are) moved.serves.are.down)
         (down_other topology port (Ticked now) refl);
     same = ap (λ (a : AccessValue). a.topology) ticks.rest ∙ moved.same;
     its = ticks.known ∙ moved.serves.its;
@@ -127,14 +142,14 @@ module _ (topology : Topology) (port now : ℕ) (reading : Option ℕ) (old last
     whole = λ more. ends more ∙ ap (λ ts. ts ++ turns_in more) (sym its_turns);
     exchanges = moved.serves.exchanges;
     once = subst (IsPermutation (datagrams moved.serves.exchanges)) (sym taken_in_round) moved.serves.once;
-    replies = filter_map-append sent_reply body (Ticked now ∷ []) ∙ (append-nil (replies_in moved.serves.entries) ∙ moved.serves.replies);
+    replies = filter_map-append sent_reply body (Ticked now ∷ []) ∙ (append-nil (replies_in body) ∙ replies_in_body);
     strays = moved.serves.strays;
     each = round_alone;
     failures = subst (λ d. CountsEach topology moved.serves.exchanges (device_of old.disk) (device_of d)) (sym (ap (λ (a : AccessValue). a.disk) ticks.rest)) moved.serves.failures;
   }
 
 ran_once : (old new : AccessValue) → IsTopology old.topology → old.server.topology ≡ old.topology → IsOneRound old new → Ran old.topology old.port old new
-ran_once old new sound known one = ran_moved old.topology old.port one.now one.reading old one.moved new known (one.moves sound known) one.ticks
+ran_once old new sound known one = ran_moved old.topology old.port one.now one.readings one.are one.clock old one.moved new known (one.moves sound known) one.ticks
 
 -- ---- one after the other
 

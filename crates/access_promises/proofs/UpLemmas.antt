@@ -13,7 +13,7 @@ use Rattle.types.specs.declared.discard.Discard.{Discard}
 use Rattle.config.specs.CircuitPart.{CircuitPart}
 use Rattle.config.specs.Topology.{IsTopology, Topology, listen}
 use Rattle.relay.specs.Relays.{relayed_up}
-use Rattle.udp.specs.History.{Entry, Took, Failed, Empty, Sent, Ticked, Refused, Read}
+use Rattle.udp.specs.History.{Entry, Took, Failed, Empty, Sent, Ticked, Refused, Read, Monotonic}
 use Rattle.udp.specs.declared.history.Role.TheVariants.{Circuit, Server, Relay}
 use Rattle.counts.specs.declared.counts.Fate.{Fate}
 use Rattle.counts.specs.declared.counts.Fate.TheVariants as fate
@@ -41,6 +41,7 @@ goes_only topology (Sent (Relay r) to bytes accepted) apart = absurd cc
 goes_only topology (Ticked now) apart = refl
 goes_only topology (Refused socket at) apart = refl
 goes_only topology (Read time) apart = refl
+goes_only topology (Monotonic time) apart = refl
 
 cons_more : {X : Type 0} (o : Option X) (xs ys : List X) → cons_option o (xs ++ ys) ≡ cons_option o xs ++ ys
 cons_more None xs ys = refl

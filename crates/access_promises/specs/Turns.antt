@@ -5,7 +5,7 @@ use Rattle.access.specs.Access.{AccessValue, AreRounds, HasTurnedOnce}
 use Rattle.access.specs.Pass.{HasPassedOnce}
 use Rattle.udp.specs.History.{Entry, Ticked}
 
--- A round: a turn or a pass, at the moment of a reading of the clock.
+-- A round: a turn or a pass, at a moment that is said to it by readings of clocks.
 abbrev pub IsRound : ℕ → ℕ → AccessValue → AccessValue → Type 0
 IsRound before now old new = HasTurnedOnce before now old new ⊎ HasPassedOnce before now old new
 

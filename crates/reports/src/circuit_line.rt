@@ -107,6 +107,15 @@ fn write_end<W: fmt::Write>(has_parts: bool, f: &mut fmt::Formatter<W>) -> fmt::
     if has_parts { f.write_str("\n") } else { Ok(()) }
 }
 
+impl<'a> CircuitLine<'a> {
+    /// Whether there is anything to say of the circuit.
+    pub fn has_text(&self) -> bool
+        ensures { result ≡ (has_parts (dropped_parts self.now.counts.now) || nat_lt 0 self.now.declined) }
+    {
+        has_begun(has_dropped(self.counts), self.declined)
+    }
+}
+
 impl<'a> fmt::Display for CircuitLine<'a> {
     ghost output = { λ line. Some (circuit_text line.circuit.now line.counts.now line.declined) };
 

@@ -14,5 +14,6 @@ mod used;
 pub use circuit_line::CircuitLine;
 pub use faults::Faults;
 pub use looks::{Looks, Scope};
+pub use once::Once;
 pub use schedule::Schedule;
-pub use seen::{Full, Seen};
+pub use seen::{Full, Reopening, Seen};

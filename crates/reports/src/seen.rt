@@ -2,7 +2,8 @@
 ghost use Rattle.std.specs.Prelude.{◌≡◌, ◌==◌, not};
 ghost use Rattle.std.specs.Option.{option_copied};
 ghost use Rattle.reports.specs.Declined.{declined_after};
-ghost use Rattle.reports.specs.Seen.{kept, not_seen_yet, noticed, told_closed, told_full, with_closed};
+ghost use Rattle.reports.specs.Seen.{kept, not_seen_yet, noticed, told_closed, told_full, told_reopening};
+ghost use Rattle.reports.specs.Seen.{with_closed, with_reopening};
 
 use crate::declined::declined_between;
 use crate::once::Once;
@@ -16,10 +17,22 @@ pub struct Full {
     pub six: bool,
 }
 
+/// What is told of a closed circuit that was tried again.
+#[derive(Clone, Copy, PartialEq, Eq)]
+pub enum Reopening {
+    /// It is open again.
+    Opened,
+    /// It stays closed, which was not told yet.
+    StaysClosed,
+    Nothing,
+}
+
 /// What was seen of a circuit, look by look.
 #[derive(Clone, Copy)]
 pub struct Seen {
     closed: Once,
+    /// Whether it stayed closed when it was tried again.
+    stays: Once,
     full4: Once,
     full6: Once,
     /// How many addresses its clients have declined, up to the greatest value.
@@ -36,6 +49,7 @@ impl Seen {
     {
         Seen {
             closed: Once::new(slots.is_none()),
+            stays: Once::new(false),
             full4: Once::new(false),
             full6: Once::new(false),
             declined: 0,
@@ -50,6 +64,24 @@ impl Seen {
         ensures next { self.new ≡ with_closed self.old is_closed }
     {
         self.closed.tell(is_closed)
+    }
+
+    /// What is told when the circuit, which was closed, was tried again and is open now or is not. Once it is open, it is told
+    /// again when it closes.
+    pub fn tell_reopening(&mut self, is_open: bool) -> Reopening
+        ensures told { result ≡ told_reopening self.old is_open }
+        ensures next { self.new ≡ with_reopening self.old is_open }
+    {
+        if is_open {
+            self.closed = Once::new(false);
+            self.stays = Once::new(false);
+            return Reopening::Opened;
+        }
+        if self.stays.tell(true) {
+            Reopening::StaysClosed
+        } else {
+            Reopening::Nothing
+        }
     }
 
     /// How many addresses its clients have declined after this look.

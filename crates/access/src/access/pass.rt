@@ -2,15 +2,17 @@
 //! circuits is answered before the next one begins.
 ghost use Rattle.std.specs.Prelude.{◌≡◌, ◌≤◌, ◌<◌, ◌+◌, ◌*◌, ◌⊎◌, ℕ, length};
 ghost use Rattle.access.specs.Access.{HasCarried, HasCounted, HasReached, StayClosed, StaysSetUp, books_at};
-ghost use Rattle.access.specs.Pass.{HasAnswered, HasMadePasses, HasPassed, HasTakenAll, HasTakenFrames};
+ghost use Rattle.access.specs.Moments.{HasReadClocks};
+ghost use Rattle.access.specs.Pass.{HasAnswered, HasMadePasses, HasPassed, HasPassedOnce, HasTakenAll, HasTakenFrames};
 ghost use Rattle.access.specs.Pass.{IsEmptied, IsSlice, RelaysEmptied, SocketsFrom};
+ghost use Rattle.access.specs.Service.{IsWatched};
 ghost use Rattle.counts.specs.Counts.{more_by};
 ghost use Rattle.dispatch.specs.ServerValue.{books_in};
 
 use super::{Access, Watch};
-use crate::clock::moment;
 use std::rt::Clock;
 use types::{MAX_BATCH, Moment, Proto};
+use udp::{read_clock, read_monotonic};
 
 /// How many frames a slice takes at most.
 const SLICE: u32 = MAX_BATCH as u32;
@@ -169,21 +171,45 @@ impl Access {
         count4 + count6
     }
 
-    /// Makes so many passes, each at the moment that the system's clock then has. After a pass that took no datagram it waits for
-    /// the next one, at most 5 milliseconds. After each pass it is shown to `watch`.
+    /// Reads the system's clock and the monotonic one, has the service's clock follow them, and returns the moment that it shows.
+    fn read_clocks<R: Clock>(&mut self, rt: &R) -> Moment
+        ensures read { HasReadClocks result self.old.clock self.new.clock self.old.history self.new.history }
+        ensures rest { self.new ≡ record self.old { history = self.new.history; clock = self.new.clock } }
+    {
+        let system = read_clock(rt, &mut self.history);
+        let monotonic = read_monotonic(rt, &mut self.history);
+        self.clock.follow(system, monotonic);
+        self.clock.moment()
+    }
+
+    /// Makes a pass at the moment that the service's clock then shows. If it took no datagram it waits for the next one, at most 5
+    /// milliseconds. Returns the moment of the pass.
+    pub(super) fn round<R: Clock>(&mut self, rt: &R) -> Moment
+        ensures passed { (before : ℕ) → HasPassedOnce before result self.old self.new }
+        ensures turns { self.new.turns ≡ self.old.turns + 1 }
+        ensures set_up { StaysSetUp self.old self.new }
+        ensures closed { StayClosed self.old.server self.new.server }
+    {
+        let now = self.read_clocks(rt);
+        if self.pass(now) == 0 {
+            // no socket gave a datagram
+            self.waiter.wait(rt, PAUSE);
+        }
+        now
+    }
+
+    /// Makes so many passes, each at the moment that the service's clock then shows: it follows the system's clock, but for jumps of
+    /// more than a minute. After a pass that took no datagram it waits for the next one, at most 5 milliseconds. After each pass it is
+    /// shown to `watch`.
     pub fn serve_passes<R: Clock, W: Watch>(&mut self, rt: &R, passes: u64, watch: &mut W)
-        ensures passed { (now : ℕ) × HasMadePasses passes now self.old self.new }
+        ensures passed { (now : ℕ) × HasMadePasses passes now self.old self.new
+            × IsWatched passes now (W.watched watch.old) (W.watched watch.new) }
         ensures turns { self.new.turns ≡ self.old.turns + passes }
         ensures set_up { StaysSetUp self.old self.new }
         ensures closed { StayClosed self.old.server self.new.server }
     {
-        let mut now = Moment::first();
         'passes: for _ in 0..passes {
-            now = moment(rt, now, &mut self.history);
-            if self.pass(now) == 0 {
-                // no socket gave a datagram
-                self.waiter.wait(rt, PAUSE);
-            }
+            let now = self.round(rt);
             watch.after_turn(self, now);
         }
     }

@@ -2,6 +2,7 @@ use Rattle.std.proofs.Common.{◌≡◌, ◌∙◌, ◌+◌, sym, ap, subst, ari
 use Rattle.std.specs.Prelude.{Some, None, slice_get}
 use Rattle.dispatch.specs.ServerValue.{books_in}
 use Rattle.access.specs.Access.{AccessValue, HasServedTurns, StayClosed, StaysSetUp}
+use Rattle.access.proofs.ServiceLemmas.{watched_more, watched_none}
 use Rattle.access.proofs.TurnLemmas.{served_once}
 use Rattle.access.proofs.access.Access.serve.Goals as goal
 use Rattle.access.proofs.access.Access.serve.Goals.{then-turn-eq0+then-pause-gt0, else-turn-eq0}
@@ -27,6 +28,7 @@ turns-preserved g c =
           });
       turned = back (HasServedTurns (c.turns.counter + 1) c.moment-now.result c.args.self.now)
           (served_once c.turns.counter c.turns.now c.moment-now.result c.turn.result c.args.self.now c.turns.self _ c.turn.new.self _ was.turned c.self.view_is c.moment-now.ensures.read after.turned);
+      watched = watched_more c.turns.counter c.turns.now c.moment-now.result _ _ _ was.watched c.after_turn.ensures;
       closed = back (λ s. StayClosed c.args.self.now.server s.server)
           (λ k closed. after.closed k (subst (λ (s : AccessValue). slice_get (books_in s.server) k ≡ Some None) (sym c.self.view_is) (was.closed k closed)));
     }

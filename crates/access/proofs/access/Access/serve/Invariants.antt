@@ -1,5 +1,6 @@
 use Rattle.std.proofs.Common.{◌≡◌, ◌≤◌, ◌+◌}
 use Rattle.access.specs.Access.{HasServedTurns, StayClosed, StaysSetUp}
+use Rattle.access.specs.Service.{IsWatched}
 use Rattle.access.proofs.access.Access.serve.Given as goal
 
 abbrev pub invariant-turns : goal.invariant-turns
@@ -8,5 +9,6 @@ invariant-turns g l = record {
   turns : l.self.turns ≡ l.fn.self.turns + l.counter;
   set_up : StaysSetUp l.fn.self l.self;
   turned : HasServedTurns l.counter l.now l.fn.self l.self;
+  watched : IsWatched l.counter l.now (g.W.Watch.watched l.fn.watch) (g.W.Watch.watched l.watch);
   closed : StayClosed l.fn.self.server l.self.server;
 }

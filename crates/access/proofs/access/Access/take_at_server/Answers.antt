@@ -87,5 +87,6 @@ returns-clause-served c =
         port = refl;
         batch = ap (λ (b : Batch). b.most) c.receive.ensures.rest ∙ c.poll.ensures.most;
         turns = refl;
+        clock = refl;
       };
     })
