@@ -19,10 +19,14 @@ device_status device.File = 5
 device_status device.Memory = 4
 device_status device.Format = 4
 
--- 0 after all turns or passes, 2 where words or configuration are refused, 4 where the opening is, 5 for a file or
+-- 0 after all turns or passes, 5 where a service has lost its file; 2 where words or configuration are refused, 4 where the opening is, 5 for a file or
 -- socket, 6 where help can't be written
 abbrev pub IsExitStatus : ℕ → Type 0
 IsExitStatus status = (status ≡ 0) ⊎ (status ≡ 2) ⊎ (status ≡ 4) ⊎ (status ≡ 5) ⊎ (status ≡ 6)
+
+-- how the program ends after it has served: 0, or 5 where a service has lost its file
+abbrev pub IsEndStatus : ℕ → Type 0
+IsEndStatus status = (status ≡ 0) ⊎ (status ≡ 5)
 
 -- why the program ends before it has served: 2 where the configuration or what it asks for is refused, 4 where the opening is, 5 for a
 -- file or socket

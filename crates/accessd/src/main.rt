@@ -5,20 +5,23 @@ ghost use Rattle.std.specs.Prelude.{◌≡◌, ◌≤◌, ◌⊎◌, ◌+◌, �
 ghost use Rattle.accessd.specs.Served.{HasServedAs, HasServedBy, HasServedValues, HasServedWords, IsDevice, IsOpenedBy};
 ghost use Rattle.accessd.specs.Serving.{batch_of, most_of};
 ghost use Rattle.accessd.specs.declared.serving.Serving.TheVariants as serving;
-ghost use Rattle.accessd.specs.Status.{IsExitStatus, IsRefusalStatus, status_of, device_status};
+ghost use Rattle.accessd.specs.Status.{IsEndStatus, IsExitStatus, IsRefusalStatus, status_of, device_status};
 
 mod addresses;
+mod lines;
 mod open_files;
-mod report_lines;
 mod reporter;
 mod serving;
+mod stream;
 mod text;
 mod words;
 
 use crate::addresses::report_addresses;
+use crate::lines::service_streams;
 use crate::open_files::too_many_files;
-use crate::reporter::Reporter;
+use crate::reporter::{Reporter, Reporting, Watcher};
 use crate::serving::Serving;
+use crate::stream::Stream;
 use crate::text::{circuit_at, id_of, text_of};
 use crate::words::AccessWords;
 use access::{
@@ -33,6 +36,7 @@ use config::Config;
 use dispatch::region_count;
 use lease_disk::{FileDisk, REGION};
 use opening::open_device;
+use std::alloc::AllocError;
 use std::fs::{self, Metadata};
 use std::net::{IpAddr, Ipv4Addr, SocketAddr, UdpSocket};
 use std::os::unix::fs::MetadataExt;
@@ -315,38 +319,83 @@ fn report_clocks(rt: &HostRuntime, access: &Access) {
     }
 }
 
-/// Makes the turns or the passes that the words ask for, and shows each to `watch`.
-fn make_rounds<W: Watch>(rt: &HostRuntime, serving: Serving, access: &mut Access, watch: &mut W)
-    ensures { HasServedAs serving access.old access.new }
+/// Makes passes, and shows each to `watch`, until that ends them. Returns the status.
+fn keep_serving<W: Watch>(rt: &HostRuntime, access: &mut Access, watch: &mut W) -> u8
+    ensures served { HasServedAs serving.Service result access.old access.new }
+    ensures watched { (W.watched watch.new).rounds + access.old.turns ≡ (W.watched watch.old).rounds + access.new.turns }
+    ensures status { IsEndStatus result }
+{
+    access.keep_serving(rt, u64::MAX, watch);
+    if watch.goes_on() { 0 } else { UNREADABLE }
+}
+
+/// Makes the turns or the passes that the words ask for, and shows each to `watch`. Returns the status at the end: a service that
+/// `watch` ends has lost its file.
+fn make_rounds<W: Watch>(
+    rt: &HostRuntime,
+    serving: Serving,
+    access: &mut Access,
+    watch: &mut W,
+) -> u8
+    ensures served { HasServedAs serving result access.old access.new }
+    ensures watched { (W.watched watch.new).rounds + access.old.turns ≡ (W.watched watch.old).rounds + access.new.turns }
+    ensures status { IsEndStatus result }
 {
     match serving {
-        Serving::Turns { turns, pause, .. } => access.serve(rt, turns, pause, watch),
-        Serving::Service => access.serve_passes(rt, u64::MAX, watch),
+        Serving::Turns { turns, pause, .. } => {
+            access.serve(rt, turns, pause, watch);
+            0
+        }
+        Serving::Service => keep_serving(rt, access, watch),
     }
 }
 
-/// Reports what is served, and serves. An error is the status, and nothing was served.
+/// The streams to which a service writes; turns wait until their lines are taken.
+fn streams_of(rt: &HostRuntime, serving: Serving) -> Result<Option<(Stream, Stream)>, AllocError> {
+    match serving {
+        Serving::Turns { .. } => Ok(None),
+        Serving::Service => Ok(Some(service_streams(rt)?)),
+    }
+}
+
+/// What writes what happens while relay and server serve.
+fn watcher<'a>(
+    rt: &'a HostRuntime,
+    values: &AccessWords<'a>,
+    access: &Access,
+) -> Result<Watcher<'a, HostRuntime>, AllocError> {
+    let streams = streams_of(rt, values.serving)?;
+    let reporting = Reporting {
+        path: values.disk,
+        every: values.report,
+        lists_leases: values.leases,
+    };
+    let reporter = Reporter::new(rt, rt.alloc(), access, reporting, streams)?;
+    Ok(Watcher::new(reporter))
+}
+
+/// Reports what is served, and serves. Returns the status at the end; an error is the status, and nothing was served.
 fn serve(
     rt: &HostRuntime,
     config: &Config,
     values: &AccessWords<'_>,
     access: &mut Access,
-) -> Result<(), u8>
+) -> Result<u8, u8>
     requires ports { values.now.port + 4 * length config.now.circuits ≤ 65536 }
-    ensures served { OnOk result (HasServedAs values.now.serving access.old access.new) }
+    ensures served { IfOk result (λ status. HasServedAs values.now.serving status access.old access.new × IsEndStatus status) }
     ensures unserved { OnErr result (access.new ≡ access.old) }
     ensures status { IfErr result (λ status. status ≡ 4) }
 {
     report_addresses(rt, config, values.port);
     report_moves(rt, config, access);
     report_clocks(rt, access);
-    let Ok(mut reporter) = Reporter::new(rt, access, values.report, values.leases) else {
+    let Ok(mut watcher) = watcher(rt, values, access) else {
         return Err(complain(rt, "open memory", UNOPENED));
     };
     report_start(rt, config, access, values);
-    make_rounds(rt, values.serving, access, &mut reporter);
-    reporter.end(access);
-    Ok(())
+    let status = make_rounds(rt, values.serving, access, &mut watcher);
+    watcher.end(access);
+    Ok(status)
 }
 
 /// Opens relay and server as the words say. An error is the status.
@@ -365,11 +414,12 @@ fn open_access(rt: &HostRuntime, config: &Config, values: &AccessWords<'_>) -> R
     }
 }
 
-/// Opens relay and server over a configuration, and serves. Returns them after the last turn or pass; an error is the status.
-fn run_over(rt: &HostRuntime, config: &Config, values: &AccessWords<'_>) -> Result<Access, u8>
+/// Opens relay and server over a configuration, and serves. Returns them after the last turn or pass, and the status; an error is
+/// the status of a refusal.
+fn run_over(rt: &HostRuntime, config: &Config, values: &AccessWords<'_>) -> Result<(Access, u8), u8>
     requires some { 1 ≤ batch_of values.now.serving }
     requires few { batch_of values.now.serving ≤ 16 }
-    ensures served { IfOk result (HasServedBy config.now values.now) }
+    ensures served { IfOk result (λ end. HasServedBy config.now values.now end.1 end.0 × IsEndStatus end.1) }
     ensures status { IfErr result IsRefusalStatus }
 {
     may_serve(rt, config, values)?;
@@ -378,7 +428,7 @@ fn run_over(rt: &HostRuntime, config: &Config, values: &AccessWords<'_>) -> Resu
     }
     let mut access = open_access(rt, config, values)?;
     match serve(rt, config, values, &mut access) {
-        Ok(()) => Ok(access),
+        Ok(status) => Ok((access, status)),
         Err(status) => {
             // by a call: all that it holds would otherwise be part of this function's proof
             drop(access);
@@ -387,21 +437,22 @@ fn run_over(rt: &HostRuntime, config: &Config, values: &AccessWords<'_>) -> Resu
     }
 }
 
-/// Runs as the words say, over the configuration that they name. Returns relay and server after the last turn or pass; an error is
-/// the status.
-fn run(rt: &HostRuntime, values: AccessWords<'_>) -> Result<Access, u8>
+/// Runs as the words say, over the configuration that they name. Returns relay and server after the last turn or pass, and the
+/// status; an error is the status of a refusal.
+fn run(rt: &HostRuntime, values: AccessWords<'_>) -> Result<(Access, u8), u8>
     requires some { 1 ≤ batch_of values.serving }
     requires few { batch_of values.serving ≤ 16 }
-    ensures served { IfOk result (HasServedValues values.entry) }
+    ensures served { IfOk result (λ end. HasServedValues values.entry end.1 end.0 × IsEndStatus end.1) }
     ensures status { IfErr result IsRefusalStatus }
 {
     let config = read_configuration(rt, values.config)?;
     run_over(rt, &config, &values)
 }
 
-/// Runs as the program's words say. Returns relay and server after the last turn or pass; an error is the status.
-fn run_words(rt: &HostRuntime) -> Result<Access, u8>
-    ensures served { IfOk result HasServedWords }
+/// Runs as the program's words say. Returns relay and server after the last turn or pass, and the status; an error is the status
+/// of a refusal.
+fn run_words(rt: &HostRuntime) -> Result<(Access, u8), u8>
+    ensures served { IfOk result (λ end. HasServedWords end.1 end.0 × IsEndStatus end.1) }
     ensures status { IfErr result IsExitStatus }
 {
     let given = given_words(rt)?;
@@ -419,9 +470,9 @@ fn status(rt: &HostRuntime) -> u8
         Err(status) => return status,
     };
     match run_words(rt) {
-        Ok(access) => {
+        Ok((access, status)) => {
             drop(access);
-            0
+            status
         }
         Err(status) => status,
     }
