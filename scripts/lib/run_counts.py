@@ -8,6 +8,7 @@ STEPS = {"received": "datagrams received", "relayed": "sent on to the server", "
 TOTALS = re.compile(", ".join(rf"(?P<{step}>\d+) {re.escape(words)}" for step, words in STEPS.items()))
 DROPPED = re.compile(r"(\d+) dropped \((\d+)\): (.*)")
 CLOSED = re.compile(r"(\S+) closed: a save of its leases failed; .*")
+OPENED = re.compile(r"(\S+) is open again, .*")
 
 
 class Counts:
@@ -25,6 +26,8 @@ class Counts:
     def line(self, text):
         if closed := CLOSED.fullmatch(text):
             self.closed.add(closed[1])
+        elif opened := OPENED.fullmatch(text):
+            self.closed.discard(opened[1])
         elif text.startswith(BEGINNING):
             self.end_run()
             self.runs += 1

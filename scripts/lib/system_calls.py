@@ -85,6 +85,10 @@ class Watch:
         # no longer waits
         self.turns, self.turns_at_rest, self.runs, self.is_hurried = 0, 0, True, False
         self.changed = threading.Condition()
+        # what a server looks for datagrams with; of other descriptors it asks whether they take a line
+        self.looks_with = None
+        # the six arguments of the last call
+        self.arguments = []
 
     def start(self, command, **how):
         """Starts the program, as subprocess.Popen does."""
@@ -141,8 +145,8 @@ class Watch:
             except OSError:
                 # the program ended
                 continue
-            number, _, _, call, _, _, first_argument, _, _, fourth_argument = struct.unpack_from("QIIiIQQQQQ", question)
-            how = self.look(fourth_argument) if names[call] == "look" else self.call(names[call], first_argument)
+            number, _, _, call, _, _, *self.arguments = struct.unpack_from("QIIiIQQQQQQQ", question)
+            how = self.answer(names[call], self.arguments[0], self.arguments[3])
             try:
                 fcntl.ioctl(descriptor, ANSWER, struct.pack("QqiI", number, 0, *how))
             except OSError:
@@ -151,6 +155,14 @@ class Watch:
         with self.changed:
             self.runs = False
             self.changed.notify_all()
+
+    def answer(self, name, first_argument, fourth_argument):
+        """The answer to a call. Only the first descriptor that it looks with tells of datagrams."""
+        if name != "look":
+            return self.call(name, first_argument)
+        if self.looks_with is None:
+            self.looks_with = first_argument
+        return self.look(fourth_argument) if first_argument == self.looks_with else GO_ON
 
     def look(self, milliseconds):
         """The answer to a look, which waits at most so long. A turn begins with one that doesn't wait; after a turn that took nothing

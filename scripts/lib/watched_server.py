@@ -14,10 +14,10 @@ TURNS, PAUSE = 5000, 50
 class WatchedServer(Server):
     """A run under the watcher of its calls, `watch`, that serves until its counts are wanted; a service has none at its end."""
 
-    def __init__(self, program, config, leases, *words, names=OUTGOING, fails=None, **how):
-        """Watches the calls of these names; `fails` says which of them fails, as `Watch.fail` does."""
+    def __init__(self, program, config, leases, *words, names=OUTGOING, fails=None, watch=None, **how):
+        """Watches the calls of these names, or by another watcher; `fails` says which of them fails, as `Watch.fail` does."""
         self.is_service = "--service" in words
-        self.watch = Watch((*names, "look"))
+        self.watch = watch or Watch((*names, "look"))
         if fails:
             self.watch.fail(*fails)
         pause = () if self.is_service else ("--pause", str(PAUSE))

@@ -1,8 +1,9 @@
-"""Each of the four calls by which a start moves the first region of a file of format 1 fails in turn: circuit `a` is
-closed, `a1` is moved and served, nothing of the file's leases is lost, and the next start serves `a` too. It moves the
-region, but after the fourth call: then byte 8192 reads 2 already. At last the system lets no byte be written from 57344
-on, in the middle of what a move writes to region 1 first. The file is that of the case a_file_of_format_1, which tries a start for
-turns."""
+"""A start over a file of format 1 writes back both regions and syncs once; then it moves each region by four calls. Each of the first
+seven calls fails in turn. A region that could not be written back is written back again, by itself, before it is read, so that
+nobody notices. Where a call of the move fails circuit `a` is closed, `a1` is moved and served, nothing of the file's leases is lost,
+and the next start serves `a` too. It moves the region, but after the last call: then byte 8192 reads 2 already, and is written back.
+At last the system lets no byte be written from 57344 on: region 1 can't be written back. The file is that of the case
+a_file_of_format_1, which tries a start for turns."""
 import resource
 import shutil
 import subprocess
@@ -15,8 +16,10 @@ circuit = Circuit(20000)
 
 
 def listed():
-    return subprocess.run(["leases", "config.toml", "--disk", "leases", "--at", "4103472461"],
-                          capture_output=True, text=True, check=True).stdout
+    """The leases, without their ends, which a renewal changes."""
+    lines = subprocess.run(["leases", "config.toml", "--disk", "leases", "--at", "4103472461"],
+                           capture_output=True, text=True, check=True).stdout.splitlines()
+    return [line.split()[:4] for line in lines]
 
 
 def show(server):
@@ -40,7 +43,7 @@ def show_next():
 
 shutil.copy("leases.format1", "leases")
 before = listed()
-for k in range(1, 5):
+for k in range(1, 8):
     shutil.copy("leases.format1", "leases")
     server = WatchedServer("accessd", "config.toml", "leases", "--service", fails=(k, CALLS))
     print("calls:", server.watch.since(0))
@@ -55,7 +58,7 @@ server = WatchedServer("accessd", "config.toml", "leases", "--service", restore_
                        preexec_fn=lambda: resource.setrlimit(resource.RLIMIT_FSIZE, (57344, 57344)))
 show(server)
 server.kill()
-print("the same leases of a1:", listed().splitlines()[-2:] == before.splitlines()[-2:])
+print("the same leases of a1:", listed()[-2:] == before[-2:])
 server = WatchedServer("accessd", "config.toml", "leases", "--service")
 show(server)
 server.kill()

@@ -1,5 +1,6 @@
 """What the server asks of the system, in order. A file that is made is lengthened and synced, and so is its folder; each
-region is formatted by two writes, each with a sync; a lease is saved by three writes, each with a sync, before it is
+region is formatted by two writes, each with a sync, and is written back before the first of these, since it was in doubt; the last
+sync is that of an opening, for all regions; a lease is saved by three writes, each with a sync, before it is
 acknowledged, but the first save of a slot after the formatting has no gate to close, and no first write (docs/FORMATS.md,
 The disk). Where one of
 these calls fails, no acknowledgement is sent, and the circuit is closed: each call fails once where turns are made and once in a

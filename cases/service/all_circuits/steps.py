@@ -1,14 +1,21 @@
-"""Each of 16 clients of either protocol of 128 circuits behind eight relays has a lease, and no two of a circuit have the same
-address. The service is killed, and started again over the same file: it acknowledges each client's renewal, with the same address.
-A service has up to 1024 circuits; so many take longer than a case may over programs without proofs, of which an exchange takes 3 ms."""
+"""Each of 16 clients of either protocol of 1,024 circuits behind eight relays has a lease, and no two of a circuit have the same
+address. The service is killed, and started again over the same file: it acknowledges each client's renewal, with the same address."""
+import resource
+import threading
+
 from client import DISCOVER, REQUEST, Server, frame, frame6, select
 from stepped_service import PORT, circuits_of, wanted
 
-CIRCUITS, CLIENTS = 128, 16
+CIRCUITS, CLIENTS = 1024, 16
+# two sockets of each circuit here and two at the service, and some more
+FILES = 2 * CIRCUITS + 100
+resource.setrlimit(resource.RLIMIT_NOFILE, (FILES, FILES))
 
 
 def started(*words):
     server = Server("accessd", "config.toml", "leases", "--service", "--port", str(PORT), *words)
+    # what it says meanwhile, of pools that are full, is read, so that nothing is dropped
+    threading.Thread(target=server.process.stderr.read, daemon=True).start()
     print(server.first_line.replace(", ".join(f"c{number}" for number in range(CIRCUITS)), "all circuits"))
     return server
 

@@ -1,10 +1,9 @@
-"""A service makes passes without end: after 20,000 that take nothing it still answers, again and again, and SIGTERM ends it. More
-passes than a run has turns at most, a million, would take minutes here, where the watcher counts each. No wait after a pass that
-took nothing is longer than 5 ms: here each returns at once."""
+"""A service makes passes without end: after 1,040,000, more than a run has turns at most, it still answers, and SIGTERM ends it. No
+wait after a pass that took nothing is longer than 5 ms: here each returns at once."""
 from client import DISCOVER, frame, frame6
 from stepped_service import SteppedService, circuits_of
 
-ROUNDS, PASSES = 4, 5000
+ROUNDS, PASSES = 4, 260_000
 service = SteppedService("accessd", "--format")
 first, second = circuits_of(2)
 for _ in range(ROUNDS):
